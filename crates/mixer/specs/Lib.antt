@@ -1,0 +1,2 @@
+pub mod Mixer
+pub mod Position

@@ -1,0 +1,65 @@
+// From an id to its position among the bits of a level (01's module 2): the plain mixer, which is the public SplitMix64 step, the seed word of a level, and
+// the position of the folded hash. The names are boomphf's where it has one.
+ghost use mathlib.Core.Path.{_≡_};
+ghost use Prim.Native.Nat.{_*_, _%_, _^_, _<_};
+ghost use Rattle.mixer.specs.Mixer.{mixed, seedWord, hashed};
+ghost use Rattle.mixer.specs.Position.{folded, placed, position};
+
+// a * b modulo 2^64. The halves' products fit, and that of the two high halves falls away.
+pub fn wrapping_mul(a: u64, b: u64) -> u64
+    ensures { λ r. ⌜ r ≡ a * b % 2 ^ 64 ⌝ }
+{
+    let high_a = a / 0x1_0000_0000;
+    let low_a = a % 0x1_0000_0000;
+    let high_b = b / 0x1_0000_0000;
+    let low_b = b % 0x1_0000_0000;
+    let middle = std::num::wrapping_add_u64(high_a * low_b, low_a * high_b);
+    std::num::wrapping_add_u64(middle % 0x1_0000_0000 * 0x1_0000_0000, low_a * low_b)
+}
+
+// The plain mixer.
+pub fn mix(id: u64, seed: u64) -> u64
+    ensures { λ r. ⌜ r ≡ mixed id seed ⌝ }
+{
+    let sum = std::num::wrapping_add_u64(id, seed);
+    let z = std::num::wrapping_add_u64(sum, 0x9e37_79b9_7f4a_7c15);
+    let y = wrapping_mul(z ^ (z >> 30), 0xbf58_476d_1ce4_e5b9);
+    let x = wrapping_mul(y ^ (y >> 27), 0x94d0_49bb_1331_11eb);
+    x ^ (x >> 31)
+}
+
+// The seed word of a level.
+pub fn seed_word(level: u64) -> u64
+    ensures { λ r. ⌜ r ≡ seedWord level ⌝ }
+{
+    if level < 32 { 1 << (2 * level) } else { 0 }
+}
+
+// The hash of an id at a level.
+pub fn hash_with_seed(level: u64, id: u64) -> u64
+    ensures { λ r. ⌜ r ≡ hashed level id ⌝ }
+{
+    mix(id, seed_word(level))
+}
+
+// The low 32 bits xor the high 32 bits.
+pub fn fold(v: u64) -> u32
+    ensures { λ r. ⌜ r ≡ folded v ⌝ }
+{
+    (v % 0x1_0000_0000) as u32 ^ (v >> 32) as u32
+}
+
+// The place of a folded hash among n.
+pub fn fastmod(hash: u32, n: u32) -> u64
+    ensures { λ r. ⌜ r ≡ placed hash n ⌝ }
+{
+    ((hash as u64) * (n as u64)) >> 32
+}
+
+// The position of an id among the n bits of a level.
+pub fn hashmod(level: u64, id: u64, n: u64) -> u64
+    requires { ⌜ n < 2 ^ 32 ⌝ }
+    ensures { λ r. ⌜ r ≡ position level n id ⌝ }
+{
+    fastmod(fold(hash_with_seed(level, id)), n as u32)
+}
