@@ -1,0 +1,31 @@
+// Each kind of case: what the numbers of a line are, and whether the proved functions answer as it says.
+
+pub enum Kind {
+    // state, output: of the public splitmix64.c
+    Splitmix,
+    // level, id, hash
+    Mixer,
+    // value, folded
+    Fold,
+    // level, size, id, position
+    Position,
+}
+
+// Whether a line of so many numbers is a case that holds.
+pub(crate) fn holds(kind: Kind, count: usize, line: &[u64; 8]) -> bool {
+    match kind {
+        Kind::Splitmix => count == 2 && mixer::mix(line[0], 0) == line[1],
+        Kind::Mixer => count == 3 && mixer::hash_with_seed(line[0], line[1]) == line[2],
+        Kind::Fold => count == 2 && mixer::fold(line[0]) as u64 == line[1],
+        Kind::Position => count == 4 && position(line[0], line[1], line[2]) == line[3],
+    }
+}
+
+// The position, for a size that a level can have.
+fn position(level: u64, size: u64, id: u64) -> u64 {
+    if size < 0x1_0000_0000 {
+        mixer::hashmod(level, id, size)
+    } else {
+        u64::MAX
+    }
+}

@@ -1,0 +1,49 @@
+//! Makes the copies of boomphf's `lib.rs` and `bitvector.rs` that the oracle compiles. `docs/src` stays as it is: what a copy
+//! has otherwise is listed here.
+
+use std::{env, fs, path::Path};
+
+/// One edit of a copy: how many places have the first text, which all get the second.
+type Edit = (usize, &'static str, &'static str);
+
+const LIB: [Edit; 5] = [
+    // The copy is a module and no crate root: its opening comment is no inner doc comment, and hashmap.rs is left out.
+    (26, "\n//!", "\n//"),
+    (
+        1,
+        "mod bitvector;\npub mod hashmap;\n",
+        "use super::bitvector;\n",
+    ),
+    // The hash is the plain mixer over document 01's seed word, in the place of wyhash.
+    (
+        1,
+        "wyhash::WyHash::with_seed(1 << (iter + iter))",
+        "crate::plain::PlainMixer::with_seed(crate::plain::seed_word(iter))",
+    ),
+    // What the oracle shows: the hash functions, and each level's bit vector with its ranks.
+    (5, "#[inline]\nfn ", "#[inline]\npub fn "),
+    (1, "    bitvecs: Box<[(", "    pub bitvecs: Box<[("),
+];
+
+const BITVECTOR: [Edit; 1] = [(15, "\n//!", "\n//")];
+
+fn main() {
+    copy("lib.rs", &LIB);
+    copy("bitvector.rs", &BITVECTOR);
+}
+
+fn copy(name: &str, edits: &[Edit]) {
+    let source = Path::new("../docs/src/src").join(name);
+    println!("cargo:rerun-if-changed={}", source.display());
+    let mut text = fs::read_to_string(&source).expect("docs/src holds boomphf's source");
+    for (times, old, new) in edits {
+        assert_eq!(
+            text.matches(old).count(),
+            *times,
+            "{name}: places of {old:?}"
+        );
+        text = text.replace(old, new);
+    }
+    let to = Path::new(&env::var("OUT_DIR").expect("cargo sets OUT_DIR")).join(name);
+    fs::write(to, text).expect("cargo's OUT_DIR can be written");
+}

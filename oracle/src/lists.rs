@@ -1,0 +1,85 @@
+//! The lists that `replay` compares the proved functions with. Each is a function of nothing but the seed stated in it.
+
+use crate::boomphf::{fold, hash_with_seed, hashmod};
+use crate::draw::Draw;
+use crate::list::List;
+
+/// Every list, by the name of its file.
+pub fn all() -> Vec<(&'static str, List)> {
+    vec![
+        ("splitmix64", splitmix64()),
+        ("mixer", mixer()),
+        ("fold", folds()),
+        ("position", positions()),
+    ]
+}
+
+const LEVELS: [u64; 5] = [0, 1, 31, 32, 99];
+
+const SIZES: [u64; 6] = [255, 256, 511, 513, 2000, 16_777_216];
+
+/// Ids at the edges of their halves, and 300 more.
+fn ids() -> Vec<u64> {
+    let mut draw = Draw::new(0x0073_6861_776C_0001);
+    let edges = [0, 1, (1 << 32) - 1, (1 << 32) + 1, 1 << 63, u64::MAX];
+    edges
+        .into_iter()
+        .chain((0..300).map(|_| draw.next()))
+        .collect()
+}
+
+/// `state output`: the first five outputs of the public splitmix64.c from the state 1234567, as its users quote them. They come from outside, and
+/// from no code here.
+fn splitmix64() -> List {
+    let outputs = [
+        6_457_827_717_110_365_317,
+        3_203_168_211_198_807_973,
+        9_817_491_932_198_370_423,
+        4_593_380_528_125_082_431,
+        16_408_922_859_458_223_821,
+    ];
+    let mut list = List::default();
+    let mut state: u64 = 1_234_567;
+    for output in outputs {
+        list.case(&[state, output]);
+        state = state.wrapping_add(0x9E37_79B9_7F4A_7C15);
+    }
+    list
+}
+
+/// `level id hash`
+fn mixer() -> List {
+    let mut list = List::default();
+    for id in ids() {
+        for level in LEVELS {
+            list.case(&[level, id, hash_with_seed(level, &id)]);
+        }
+    }
+    list
+}
+
+/// `value folded`, of ids and of their hashes
+fn folds() -> List {
+    let mut list = List::default();
+    for id in ids() {
+        for value in [id, hash_with_seed(0, &id)] {
+            list.case(&[value, u64::from(fold(value))]);
+        }
+    }
+    list
+}
+
+/// `level size id position`: the first ids at every level and size, the others at one level each.
+fn positions() -> List {
+    let mut list = List::default();
+    for (i, id) in ids().into_iter().enumerate() {
+        for (j, level) in LEVELS.into_iter().enumerate() {
+            if i < 16 || i % LEVELS.len() == j {
+                for size in SIZES {
+                    list.case(&[level, size, id, hashmod(level, &id, size)]);
+                }
+            }
+        }
+    }
+    list
+}
