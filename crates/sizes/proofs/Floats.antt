@@ -14,9 +14,9 @@ use lib.Ieee.Scale.{round-same}
 use lib.Ieee.Positive.{positive}
 use Rattle.bounds.specs.Bounds.{maxIds, minBits}
 use Rattle.sizes.specs.Gamma.{Allowed}
-use Rattle.sizes.specs.Sizes.{sizeFor}
+use Rattle.sizes.specs.Sizes.{wholeProduct, sizeFor}
 use Rattle.sizes.proofs.Gammas.{fraction}
-use Rattle.sizes.proofs.Sizes.{room, whole, whole-most}
+use Rattle.sizes.proofs.Sizes.{room, whole-most}
 use Rattle.sizes.proofs.Product.{times, product}
 
 -- a float that is a / c, cut to a whole number of 64 bits
@@ -33,10 +33,11 @@ unfolding toUnsigned mul ofInt
 times-zero nan p = absurd p
 times-zero (inf s) p = absurd p
 times-zero (fin true m e) p = absurd p
-times-zero (fin false m e) p = ap (toUnsigned 64) (round-same binary64 false (m * up e * 0) (down e * 1) 0 1 (omega (arith, down-pos e)) (pow-pos 0) (omega arith))
+times-zero (fin false m e) p =
+    ap (toUnsigned 64) (round-same binary64 false (m * up e * 0) (down e * 1) 0 1 (omega (arith, down-pos e)) (pow-pos 0) (omega arith))
 
 -- the library's product of gamma and r, cut to a whole number
-times-whole : (g : Float) (r : ℕ) → Allowed g → 16 * r < 2 ^ 53 → toUnsigned 64 (times g r) ≡ whole g r
+times-whole : (g : Float) (r : ℕ) → Allowed g → 16 * r < 2 ^ 53 → toUnsigned 64 (times g r) ≡ wholeProduct g r
 times-whole g zero t h = omega (arith, times-zero g (fraction g t .above), whole-most g 0 t)
 times-whole g (suc r) t h =
     let q = product g (suc r) t (omega arith) h in

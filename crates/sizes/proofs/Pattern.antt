@@ -11,8 +11,9 @@ use lib.Ieee.Digits.{size-reaches, size-le}
 use lib.Ieee.Fits.{down-pos, kept-lt}
 use lib.Ieee.Exact.{HasValue}
 use Rattle.sizes.specs.Gamma.{Allowed}
+use Rattle.sizes.specs.Sizes.{wholeProduct}
 use Rattle.sizes.proofs.Rounding.{size-gt}
-use Rattle.sizes.proofs.Sizes.{whole, whole-least, whole-most}
+use Rattle.sizes.proofs.Sizes.{whole-least, whole-most}
 use Rattle.sizes.proofs.Product.{times, product}
 
 -- the bits of n units of the smallest float
@@ -31,7 +32,7 @@ no-nan nan n c h = absurd h
 no-nan (inf s) n c h = tt
 no-nan (fin s m e) n c h = tt
 
--- the bits b of a number from 1 to 2 ^ 53: the range of its exponent, and its whole part w
+-- the bits b of a number from 1 to below 2 ^ 53: the range of its exponent, and its whole part w
 pub record Fields (b w : ℕ) : Type 0 where
   pub least : 1023 ≤ b / 2 ^ 52
   pub most : b / 2 ^ 52 ≤ 1075
@@ -54,12 +55,15 @@ fields n least fit =
     }
 
 -- ---- the product is a number, and has these fields
-module _ (g : Float) (r : ℕ) (t : Allowed g) (p : 0 < r) (room : 16 * r < 2 ^ 53) where
-  pub number : T (not (isNan (times g r)))
-  number = let q = product g r t p room in no-nan (times g r) (q .units) (2 ^ 1074) (q .value)
+abbrev pub ProductFields : Float → ℕ → Type 0
+ProductFields g r = Fields (toBits binary64 (times g r)) (wholeProduct g r)
 
-  pub read : Fields (toBits binary64 (times g r)) (whole g r)
-  read =
+module _ (g : Float) (r : ℕ) (t : Allowed g) (p : 0 < r) (room : 16 * r < 2 ^ 53) where
+  pub product-number : T (not (isNan (times g r)))
+  product-number = let q = product g r t p room in no-nan (times g r) (q .units) (2 ^ 1074) (q .value)
+
+  pub product-fields : ProductFields g r
+  product-fields =
       let q = product g r t p room in
       let n = q .units in
       let one : 1 ≤ n / 2 ^ 1074 = le-trans (whole-least g r t p) (le-of-eq (sym (q .is))) in

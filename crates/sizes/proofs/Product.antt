@@ -2,7 +2,8 @@
 use mathlib.Core.Path.{_≡_, sym, ap, _∙_}
 use mathlib.Core.Bool.{false}
 use Prim.Native.Nat.{ℕ, _+_, _-_, _*_, _/_, _^_, _≤_, _<_}
-use native.Mathlib.Nat.{le-trans, le-of-eq, lt-of-lt-of-le, lt-of-le-of-lt, one-mul, mul-one, mul-comm, mul-assoc, mul-left-comm, mul-right-comm, mul-le-mul-left, mul-le-mul-right, mul-lt-mul-of-pos-right, mul-pos, le-div-iff-mul-le, div-lt-iff-lt-mul}
+use native.Mathlib.Nat.{le-trans, le-of-eq, lt-of-lt-of-le, lt-of-le-of-lt, le-div-iff-mul-le, div-lt-iff-lt-mul}
+use native.Mathlib.Nat.{one-mul, mul-one, mul-comm, mul-assoc, mul-left-comm, mul-right-comm, mul-le-mul-right, mul-lt-mul-of-pos-right, mul-pos}
 use native.Mathlib.Omega.{arith}
 use lib.IntN.{pos}
 use lib.Dec.{lit≤}
@@ -15,10 +16,10 @@ use lib.Ieee.Scale.{grid, round-val}
 use lib.Ieee.Back.{round-whole}
 use lib.Ieee.Positive.{num, den, den-pos, own-value, positive-of-value, mul-at}
 use Rattle.sizes.specs.Gamma.{Allowed}
-use Rattle.sizes.specs.Sizes.{wholeOf}
+use Rattle.sizes.specs.Sizes.{wholeOf, wholeProduct}
 use Rattle.sizes.proofs.Rounding.{size-gt, cut, whole-cut}
-use Rattle.sizes.proofs.Gammas.{fraction}
-use Rattle.sizes.proofs.Sizes.{whole, whole-most}
+use Rattle.sizes.proofs.Gammas.{fraction, product-least, product-most}
+use Rattle.sizes.proofs.Sizes.{whole-most}
 
 -- ---- a fraction that is 1 at least, times 2 ^ t, has t more digits before the point
 size-scale : (a c t : ℕ) → 0 < c → c ≤ a → size (a * 2 ^ t / c) ≡ size (a / c) + t
@@ -37,7 +38,8 @@ cut-units : (a c j k l : ℕ) → 0 < c → k + j ≡ l → closest (a * 2 ^ l) 
 cut-units a c j k l C e =
     let x = closest (a * 2 ^ k) c in
     let w : 2 ^ l ≡ 2 ^ k * 2 ^ j = ap (λ (n : ℕ). 2 ^ n) (sym e) ∙ pow-add 2 k j in
-    ap (λ (n : ℕ). n * 2 ^ j / 2 ^ l) (closest-same (a * 2 ^ l) (c * 2 ^ j) (a * 2 ^ k) c (mul-pos C (pow-pos j)) C (simp (w, mul-assoc, mul-comm, mul-left-comm)))
+    let cross : a * 2 ^ l * c ≡ a * 2 ^ k * (c * 2 ^ j) = simp (w, mul-assoc, mul-comm, mul-left-comm) in
+    ap (λ (n : ℕ). n * 2 ^ j / 2 ^ l) (closest-same (a * 2 ^ l) (c * 2 ^ j) (a * 2 ^ k) c (mul-pos C (pow-pos j)) C cross)
     ∙ div-same (x * 2 ^ j) (2 ^ l) x (2 ^ k) (pow-pos l) (pow-pos k) (simp (w, mul-assoc, mul-comm))
 
 enough : (f : Format) → prec f ≤ low f
@@ -64,22 +66,23 @@ pub record Product (x : Float) (w : ℕ) : Type 0 where
   pub value : HasValue x false units (2 ^ 1074)
   pub is : units / 2 ^ 1074 ≡ w
 
-pub product : (g : Float) (r : ℕ) → Allowed g → 0 < r → 16 * r < 2 ^ 53 → Product (times g r) (whole g r)
+pub product : (g : Float) (r : ℕ) → Allowed g → 0 < r → 16 * r < 2 ^ 53 → Product (times g r) (wholeProduct g r)
 unfolding ofInt
 product g r t p room =
     let a = num g * r in
     let c = den g in
     let C = den-pos g in
     let G = fraction g t in
-    let one : c ≤ a = omega (arith, mul-le-mul-left (num g) p) in
-    let below : a < 2 ^ 53 * c = lt-of-le-of-lt (omega (arith, mul-le-mul-right r (G .most))) (mul-lt-mul-of-pos-right room C) in
-    let is : grid binary64 a c / 2 ^ 1074 ≡ whole g r = grid-whole binary64 a c C one below in
+    let below : a < 2 ^ 53 * c = lt-of-le-of-lt (product-most g r t) (mul-lt-mul-of-pos-right room C) in
+    let is : grid binary64 a c / 2 ^ 1074 ≡ wholeProduct g r = grid-whole binary64 a c C (product-least g r t p) below in
     let small : grid binary64 a c / 2 ^ 1074 < 2 ^ 1024 = lt-of-le-of-lt (le-trans (le-of-eq is) (whole-most g r t)) (lt-of-lt-of-le room (lit≤ tt)) in
-    let v = round-whole binary64 false r (omega arith) in
+    let y = ofInt binary64 (pos r) in
+    let v : HasValue y false r 1 = round-whole binary64 false r (omega arith) in
+    let q = positive-of-value y r 1 v p in
     record {
       units = grid binary64 a c;
       value =
-          rw (mul-at binary64 g (ofInt binary64 (pos r)) (num g) c r 1 (G .above) (positive-of-value (ofInt binary64 (pos r)) r 1 v p) C (pow-pos 0) (own-value g (G .above)) v, mul-one)
+          rw (mul-at binary64 g y (num g) c r 1 (G .above) q C (pow-pos 0) (own-value g (G .above)) v, mul-one)
           (round-val binary64 a c (div-lt-iff-lt-mul (pow-pos 1074) .0 small));
       is = is;
     }

@@ -23,15 +23,17 @@ two = ofBits binary64 0x4000_0000_0000_0000
 abbrev takes : ℕ → ℕ → ℕ → Bool
 takes bits words samples = eqb (wordsFor bits) words && eqb (samplesFor (wordsFor bits)) samples
 
+-- for gamma and so many ids a level has so many bits, words and samples
+abbrev level : Float → ℕ → ℕ → ℕ → ℕ → Bool
+level gamma ids bits words samples = eqb (sizeFor gamma ids) bits && takes bits words samples
+
 rows : T (all
     (not (aboveMin (ofBits binary64 0x3FF0_28F5_C28F_5C29))
     ∷ aboveMin (ofBits binary64 0x3FF0_28F5_C28F_5C2A)
-    ∷ eqb (sizeFor two 1_000) 2_000
-    ∷ takes 2_000 32 4
-    ∷ eqb (sizeFor oneAndHalf 0) 255
-    ∷ eqb (sizeFor oneAndHalf 1) 255
-    ∷ eqb (sizeFor oneAndHalf 170) 255
-    ∷ takes 255 4 1
+    ∷ level two 1_000 2_000 32 4
+    ∷ level oneAndHalf 0 255 4 1
+    ∷ level oneAndHalf 1 255 4 1
+    ∷ level oneAndHalf 170 255 4 1
     ∷ eqb (sizeFor oneAndHalf 171) 256
     ∷ takes 512 8 1
     ∷ takes 513 9 2

@@ -1,16 +1,16 @@
 -- The size of a level: between the two bounds, and no larger where fewer ids remain, so that its words and samples are no more. Assumes nothing.
 use mathlib.Core.Path.{_≡_}
 use Prim.Native.Nat.{ℕ, _*_, _^_, _≤_, _<_}
-use native.Mathlib.Nat.{mul-le-mul-left, mul-le-mul-right}
+use native.Mathlib.Nat.{one-mul, mul-le-mul-left}
 use native.Mathlib.Omega.{arith}
 use lib.Ieee.{Float}
 use lib.Ieee.Positive.{num, den, den-pos}
 use Rattle.bounds.specs.Bounds.{maxIds, maxBits, minBits}
 use Rattle.laws.specs.Bits.{wordsFor}
 use Rattle.sizes.specs.Gamma.{Allowed}
-use Rattle.sizes.specs.Sizes.{wholeOf, precision, sizeFor, samplesFor}
+use Rattle.sizes.specs.Sizes.{precision, wholeProduct, sizeFor, samplesFor}
 use Rattle.sizes.proofs.Rounding.{whole-le, whole-ge, whole-mono}
-use Rattle.sizes.proofs.Gammas.{fraction}
+use Rattle.sizes.proofs.Gammas.{product-least, product-most}
 
 -- ---- what the laws need of the bounds: 16 bits for each id are not too many for a level, and their number has 53 binary digits at most
 ids-bits : 16 * maxIds ≤ maxBits
@@ -25,15 +25,12 @@ bits-digits = omega arith
 pub room : (r : ℕ) → r ≤ maxIds → 16 * r < 2 ^ 53
 room r h = omega (arith, ids-bits, bits-digits)
 
--- ---- the product's whole part is 16 for each id at most, and 1 at least
-abbrev pub whole : Float → ℕ → ℕ
-whole g r = wholeOf precision (num g * r) (den g)
+-- ---- the product's whole part
+pub whole-most : (g : Float) (r : ℕ) → Allowed g → wholeProduct g r ≤ 16 * r
+whole-most g r t = whole-le precision (num g * r) (den g) (16 * r) (den-pos g) (product-most g r t)
 
-pub whole-most : (g : Float) (r : ℕ) → Allowed g → whole g r ≤ 16 * r
-whole-most g r t = whole-le precision (num g * r) (den g) (16 * r) (den-pos g) (omega (arith, mul-le-mul-right r (fraction g t .most)))
-
-pub whole-least : (g : Float) (r : ℕ) → Allowed g → 0 < r → 1 ≤ whole g r
-whole-least g r t p = whole-ge precision (num g * r) (den g) 1 (den-pos g) (omega (arith, mul-le-mul-left (num g) p, fraction g t .least))
+pub whole-least : (g : Float) (r : ℕ) → Allowed g → 0 < r → 1 ≤ wholeProduct g r
+whole-least g r t p = whole-ge precision (num g * r) (den g) 1 (den-pos g) (simp one-mul (product-least g r t p))
 
 -- ---- the size
 pub size-zero : (g : Float) → sizeFor g 0 ≡ minBits

@@ -6,12 +6,12 @@ ghost use Rattle.laws.specs.Bits.{wordsFor};
 ghost use Rattle.sizes.specs.Gamma.{aboveMin, aboveMax, Allowed};
 ghost use Rattle.sizes.specs.Sizes.{sizeFor, samplesFor};
 
-// A gamma is above the one, and not above the other.
-pub const MIN_GAMMA: f64 = 1.01;
+// A gamma has to be above the one, and not above the other.
+const MIN_GAMMA: f64 = 1.01;
 
-pub const MAX_GAMMA: f64 = 16.0;
+const MAX_GAMMA: f64 = 16.0;
 
-// The leading digit of an f64's 53, which its bits leave out: the other 52 stand lowest, and the exponent above them.
+// 2^52: the leading one of an f64's 53 binary digits. The bits of an f64 leave it out; they hold the other 52, and above these the exponent.
 const LEADING: u64 = 0x10_0000_0000_0000;
 
 // Whether gamma is above 1.01. NaN is not.
@@ -36,11 +36,11 @@ pub fn size(gamma: f64, ids: u64) -> u64
     if ids == 0 {
         return bounds::MIN_BITS;
     }
-    // The product is 1 or more, so it is digits * 2^(exponent - 1075).
+    // The product is from 1 to below 2^53, and so significand * 2^(exponent - 1075), with an exponent from 1023 to 1075.
     let bits = f64::to_bits(gamma * (ids as f64));
     let exponent = bits / LEADING;
-    let digits = bits % LEADING + LEADING;
-    let whole = digits >> (1075 - exponent);
+    let significand = bits % LEADING + LEADING;
+    let whole = significand >> (1075 - exponent);
     if whole < bounds::MIN_BITS {
         bounds::MIN_BITS
     } else {
@@ -48,7 +48,7 @@ pub fn size(gamma: f64, ids: u64) -> u64
     }
 }
 
-// How many samples a level of so many words has: one for each 8 words that begin.
+// How many samples a level of so many words has: one for every 8 words, and one for those left over.
 pub fn samples(words: u64) -> u64
     requires { ⌜ words ≤ wordsFor maxBits ⌝ }
     ensures { λ r. ⌜ r ≡ samplesFor words ⌝ }
