@@ -1,0 +1,7 @@
+pub mod Rounding
+pub mod Gammas
+pub mod Sizes
+pub mod Product
+pub mod Pattern
+pub mod Floats
+pub mod Rows

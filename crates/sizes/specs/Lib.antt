@@ -1,0 +1,2 @@
+pub mod Gamma
+pub mod Sizes
