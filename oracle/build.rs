@@ -9,11 +9,7 @@ type Edit = (usize, &'static str, &'static str);
 const LIB: [Edit; 5] = [
     // The copy is a module and no crate root: its opening comment is no inner doc comment, and hashmap.rs is left out.
     (26, "\n//!", "\n//"),
-    (
-        1,
-        "mod bitvector;\npub mod hashmap;\n",
-        "use super::bitvector;\n",
-    ),
+    (1, "mod bitvector;\npub mod hashmap;\n", "use super::bitvector;\n"),
     // The hash is the plain mixer over document 01's seed word, in the place of wyhash.
     (
         1,
@@ -37,11 +33,7 @@ fn copy(name: &str, edits: &[Edit]) {
     println!("cargo:rerun-if-changed={}", source.display());
     let mut text = fs::read_to_string(&source).expect("docs/src holds boomphf's source");
     for (times, old, new) in edits {
-        assert_eq!(
-            text.matches(old).count(),
-            *times,
-            "{name}: places of {old:?}"
-        );
+        assert_eq!(text.matches(old).count(), *times, "{name}: places of {old:?}");
         text = text.replace(old, new);
     }
     let to = Path::new(&env::var("OUT_DIR").expect("cargo sets OUT_DIR")).join(name);

@@ -1,5 +1,7 @@
 //! The lists that `replay` compares the proved functions with. Each is a function of nothing but the seed stated in it.
 
+mod size;
+
 use crate::boomphf::{fold, hash_with_seed, hashmod};
 use crate::draw::Draw;
 use crate::list::List;
@@ -11,6 +13,7 @@ pub fn all() -> Vec<(&'static str, List)> {
         ("mixer", mixer()),
         ("fold", folds()),
         ("position", positions()),
+        ("size", size::sizes()),
     ]
 }
 
@@ -22,10 +25,7 @@ const SIZES: [u64; 6] = [255, 256, 511, 513, 2000, 16_777_216];
 fn ids() -> Vec<u64> {
     let mut draw = Draw::new(0x0073_6861_776C_0001);
     let edges = [0, 1, (1 << 32) - 1, (1 << 32) + 1, 1 << 63, u64::MAX];
-    edges
-        .into_iter()
-        .chain((0..300).map(|_| draw.next()))
-        .collect()
+    edges.into_iter().chain((0..300).map(|_| draw.next())).collect()
 }
 
 /// `state output`: the first five outputs of the public splitmix64.c from the state 1234567, as its users quote them. They come from outside, and

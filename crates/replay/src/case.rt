@@ -1,4 +1,6 @@
 // Each kind of case: what the numbers of a line are, and whether the proved functions answer as it says.
+use crate::list::MOST;
+use trial::measure::measure;
 
 pub enum Kind {
     // state, output: of the public splitmix64.c
@@ -9,15 +11,18 @@ pub enum Kind {
     Fold,
     // level, size, id, position
     Position,
+    // gamma's bits, ids, size, words
+    Size,
 }
 
 // Whether a line of so many numbers is a case that holds.
-pub(crate) fn holds(kind: Kind, count: usize, line: &[u64; 8]) -> bool {
+pub(crate) fn holds(kind: Kind, count: usize, line: &[u64; MOST]) -> bool {
     match kind {
         Kind::Splitmix => count == 2 && mixer::mix(line[0], 0) == line[1],
         Kind::Mixer => count == 3 && mixer::hash_with_seed(line[0], line[1]) == line[2],
         Kind::Fold => count == 2 && mixer::fold(line[0]) as u64 == line[1],
         Kind::Position => count == 4 && position(line[0], line[1], line[2]) == line[3],
+        Kind::Size => count == 4 && is_size(line[0], line[1], line[2], line[3]),
     }
 }
 
@@ -29,3 +34,16 @@ fn position(level: u64, size: u64, id: u64) -> u64 {
         u64::MAX
     }
 }
+
+// Whether a level for gamma, given by its bits, and so many ids takes so many bits and words.
+fn is_size(gamma: u64, ids: u64, bits: u64, words: u64) -> bool {
+    if gamma < INFINITY {
+        let takes = measure(f64::from_bits(gamma), ids);
+        takes.bits == bits && takes.words == words
+    } else {
+        false
+    }
+}
+
+// Below it are the bits of the finite f64s that are not negative.
+const INFINITY: u64 = 0x7ff0_0000_0000_0000;

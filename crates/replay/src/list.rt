@@ -21,12 +21,15 @@ pub enum Line {
     Broken,
 }
 
+// No line has more numbers.
+pub const MOST: usize = 512;
+
 // No line has more bytes.
 const LONGEST: u64 = 1_000_000;
 
 // A store for the numbers of a line.
-pub(crate) fn numbers() -> [u64; 8] {
-    [0; 8]
+pub(crate) fn numbers() -> [u64; MOST] {
+    [0; MOST]
 }
 
 pub(crate) fn start(file: i32) -> Place {
@@ -66,7 +69,7 @@ fn past(place: Place, byte: u8, at: usize, end: usize) -> Next {
 }
 
 // The next line's numbers.
-pub(crate) fn read_line(place: Place, buffer: &mut [u8; 4096], numbers: &mut [u64; 8]) -> Line {
+pub(crate) fn read_line(place: Place, buffer: &mut [u8; 4096], numbers: &mut [u64; MOST]) -> Line {
     let mut next = place;
     let mut count: usize = 0;
     let mut value: u64 = 0;
@@ -81,7 +84,7 @@ pub(crate) fn read_line(place: Place, buffer: &mut [u8; 4096], numbers: &mut [u6
         if is_digit(byte) {
             value = with_digit(value, byte);
         } else {
-            if count >= 8 {
+            if count >= MOST {
                 return Line::Broken;
             }
             numbers[count] = value;

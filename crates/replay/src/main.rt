@@ -6,6 +6,7 @@ mod list;
 use case::Kind;
 use libc::STDOUT_FILENO;
 use list::Line;
+use list::MOST;
 use list::Place;
 
 // How far a list is equal.
@@ -31,6 +32,7 @@ fn main() {
     replay(b"mixer", Kind::Mixer);
     replay(b"fold", Kind::Fold);
     replay(b"position", Kind::Position);
+    replay(b"size", Kind::Size);
 }
 
 // Compares the list of this name, and writes its line.
@@ -47,7 +49,12 @@ fn replay(name: &[u8], kind: Kind) {
     report(name, outcome);
 }
 
-fn compare(kind: Kind, start: Place, buffer: &mut [u8; 4096], numbers: &mut [u64; 8]) -> Outcome {
+fn compare(
+    kind: Kind,
+    start: Place,
+    buffer: &mut [u8; 4096],
+    numbers: &mut [u64; MOST],
+) -> Outcome {
     let mut place = start;
     let mut cases: u64 = 0;
     while cases < MOST_CASES {
@@ -66,7 +73,7 @@ fn compare(kind: Kind, start: Place, buffer: &mut [u8; 4096], numbers: &mut [u64
 }
 
 // The next line: a case, or the one number that ends the list, which is the check of all bytes before it.
-fn next_case(kind: Kind, place: Place, buffer: &mut [u8; 4096], numbers: &mut [u64; 8]) -> Step {
+fn next_case(kind: Kind, place: Place, buffer: &mut [u8; 4096], numbers: &mut [u64; MOST]) -> Step {
     let line = list::read_line(place, buffer, numbers);
     let Line::Numbers(count, next) = line else {
         return Step::Broken;

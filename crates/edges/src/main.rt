@@ -1,0 +1,7 @@
+// The lines of 01's "Both sides of each line" that are run: each is written with what the proved functions answer, and the file stdout has what 01 says.
+mod levels;
+
+fn main() {
+    levels::gammas();
+    levels::sizes();
+}

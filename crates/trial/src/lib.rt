@@ -1,0 +1,3 @@
+// What the programs `edges` and `replay` share.
+pub mod measure;
+pub mod print;
