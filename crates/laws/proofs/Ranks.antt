@@ -4,6 +4,8 @@ use mathlib.Core.Bool.{Bool, true, false}
 use Prim.Native.Nat.{ℕ, zero, suc, _+_, _≤_, _<_, zero-le}
 use native.Mathlib.Nat.{add-zero, add-suc, le-step, lt-suc-self}
 use native.Mathlib.Omega.{arith}
+use borrow.Author.Tests.{eqb-true, eqb-false, eq-eqb, ne-eqb}
+use lib.Dec.{eqb}
 use Rattle.laws.specs.Counting.{one, sum, rank}
 use Rattle.laws.proofs.Sums.{rank-lt}
 
@@ -34,6 +36,14 @@ none-rank f n e k l = go (f k) refl
     go : (t : Bool) → f k ≡ t → t ≡ false
     go true h = absurd (omega (arith, rank-lt f k n h l))
     go false h = refl
+
+-- tests that hold together are one test
+pub eqb-both : (a b c d : ℕ) → (a ≡ b → c ≡ d) → (c ≡ d → a ≡ b) → eqb a b ≡ eqb c d
+eqb-both a b c d f g = go (eqb a b) refl
+  where
+    go : (t : Bool) → eqb a b ≡ t → t ≡ eqb c d
+    go true e = sym (eq-eqb c d (f (eqb-true a b e)))
+    go false e = sym (ne-eqb c d (λ h. eqb-false a b e (g h)))
 
 pub rank-le : (f : ℕ → Bool) (n : ℕ) → rank f n ≤ n
 rank-le f zero = zero-le

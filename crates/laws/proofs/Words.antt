@@ -11,12 +11,13 @@ use borrow.Author.Tests.{eqb-true, eqb-false, eq-eqb, ne-eqb}
 use lib.Count.{ones}
 use lib.Dec.{eqb, lit<, lit≤}
 use lib.ListN.{length, getD, set, take, drop, length-set, List·getD-eq-default}
+use lib.Pow.{shr-lt}
 use lib.Seq.{getD-set-same, getD-set-other, set-out, drop-set-lt, ext-getD, length-take-le, take-length, getD-take}
 use Rattle.laws.specs.Counting.{one, sum, rank}
 use Rattle.laws.specs.Bits.{digit, bitAt, has, Words, withBit, withoutBit, number, packed}
 use Rattle.laws.proofs.Sums.{tri, Tri, lt, eq, gt, length-blocks, blocks-at}
 use Rattle.laws.proofs.Ranks.{sum-ones, sum-range, sum-below}
-use Rattle.laws.proofs.Digits.{digit-ext, number-lt, number-digit, up-same, up-other, up-fits, down-same, down-other, ones-low}
+use Rattle.laws.proofs.Digits.{digit-ext, number-lt, number-digit, up-same, up-other, up-fits, down-same, down-other, ones-low, digit-shr}
 
 -- ---- a bit as a number and as a test
 
@@ -48,6 +49,15 @@ has-true ws b e = sym (has-one ws b) ∙ ap one e
 
 pub has-false : (ws : List ℕ) (b : ℕ) → has ws b ≡ false → bitAt ws b ≡ 0
 has-false ws b e = sym (has-one ws b) ∙ ap one e
+
+-- from the test on the digit itself
+pub has-set : (ws : List ℕ) (b : ℕ) → digit (getD ws (b / 64) 0) (b % 64) ≡ 1 → has ws b ≡ true
+unfolding has bitAt
+has-set ws b e = eq-eqb _ _ e
+
+pub has-clear : (ws : List ℕ) (b : ℕ) → (digit (getD ws (b / 64) 0) (b % 64) ≡ 1 → ⊥) → has ws b ≡ false
+unfolding has bitAt
+has-clear ws b e = ne-eqb _ _ e
 
 pub same-bit : (us vs : List ℕ) (b : ℕ) → bitAt us b ≡ bitAt vs b → has us b ≡ has vs b
 unfolding has
@@ -276,3 +286,16 @@ rank-words ws f (suc i) =
 
 pub rank-at : (ws : List ℕ) → Words ws → (i k : ℕ) → k ≤ 64 → rank (has ws) (64 * i + k) ≡ sum (λ j. ones (getD ws j 0)) i + ones (getD ws i 0 % 2 ^ k)
 rank-at ws f i k h = rank-word ws i k h ∙ ap (λ (n : ℕ). n + ones (getD ws i 0 % 2 ^ k)) (rank-words ws f i)
+
+-- the set bits from a position to the end of its word
+pub rank-rest : (ws : List ℕ) → Words ws → (i k : ℕ) → k ≤ 64 → rank (λ j. has ws (64 * i + k + j)) (64 - k) ≡ ones (getD ws i 0 / 2 ^ k)
+rank-rest ws f i k h =
+    let w : ℕ = getD ws i 0 in
+    let e : 64 - k + k ≡ 64 = omega arith in
+    let l : w / 2 ^ k < 2 ^ (64 - k) = shr-lt (64 - k) k (rw e (f i)) in
+    sum-below _ (λ j. digit (w / 2 ^ k) j) (64 - k)
+    (λ j m.
+    let a : 64 * i + k + j ≡ 64 * i + (k + j) = omega arith in
+    ap (λ (p : ℕ). one (has ws p)) a ∙ has-one ws (64 * i + (k + j)) ∙ bit-in-word ws i (k + j) (omega arith) ∙ sym (digit-shr w k j))
+    ∙ sym (ones-low (w / 2 ^ k) (64 - k))
+    ∙ ap ones (mod-eq-of-lt l)
