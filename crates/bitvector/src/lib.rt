@@ -1,12 +1,13 @@
 // Sets of numbers below a capacity, in words that the caller lends (01's module 1): bit b is bit b mod 64 of word b / 64.
 ghost use mathlib.Core.Path.{_≡_};
-ghost use Prim.Native.Nat.{_/_, _≤_, _<_};
-ghost use mathlib.Core.List.{_++_};
+ghost use Prim.Native.Nat.{ℕ, _/_, _≤_, _<_};
+ghost use mathlib.Core.List.{List, _++_};
 ghost use lib.ListN.{length, drop, replicate};
 ghost use Rattle.bounds.specs.Bounds.{maxBits};
+ghost use Rattle.laws.specs.Counting.{one};
 ghost use Rattle.laws.specs.Bits.{wordsFor, has, withBit, withoutBit};
 ghost use Rattle.bitvector.specs.Steps.{Step};
-ghost use Rattle.bitvector.specs.Calls.{roomy, sound};
+ghost use Rattle.bitvector.specs.Calls.{answered, said, roomy, sound, containsCall, insertCall, removeCall};
 use bounds::MAX_BITS;
 use refusal::Refusal;
 
@@ -100,4 +101,50 @@ fn is_sound(capacity: u64, words: &[u64]) -> bool
     }
     let at = (capacity / 64) as usize;
     words[at] >> past == 0
+}
+
+fn yes_if(yes: bool) -> Said
+    ensures { λ r. ⌜ ((store : List ℕ) → said r store ≡ answered (one yes) store) ⌝ }
+{
+    if yes { Said::Yes } else { Said::No }
+}
+
+// ---- the calls
+
+pub fn contains(capacity: u64, words: &[u64], bit: u64) -> Said
+    ensures { λ r. ⌜ said r (now (words .exit)) ≡ containsCall capacity (now (words .entry)) bit ⌝ }
+{
+    if !is_sound(capacity, words) {
+        return Said::Refused(Refusal::UnfitSet);
+    }
+    if bit >= capacity {
+        return Said::Refused(Refusal::BitOutside);
+    }
+    yes_if(has_bit(words, bit))
+}
+
+// Whether the bit is new.
+pub fn insert(capacity: u64, words: &mut [u64], bit: u64) -> Said
+    ensures { λ r. ⌜ said r (now (words .exit)) ≡ insertCall capacity (now (words .entry)) bit ⌝ }
+{
+    if !is_sound(capacity, words) {
+        return Said::Refused(Refusal::UnfitSet);
+    }
+    if bit >= capacity {
+        return Said::Refused(Refusal::BitOutside);
+    }
+    yes_if(!add_bit(words, bit))
+}
+
+// Whether the bit was there.
+pub fn remove(capacity: u64, words: &mut [u64], bit: u64) -> Said
+    ensures { λ r. ⌜ said r (now (words .exit)) ≡ removeCall capacity (now (words .entry)) bit ⌝ }
+{
+    if !is_sound(capacity, words) {
+        return Said::Refused(Refusal::UnfitSet);
+    }
+    if bit >= capacity {
+        return Said::Refused(Refusal::BitOutside);
+    }
+    yes_if(drop_bit(words, bit))
 }
