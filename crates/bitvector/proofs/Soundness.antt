@@ -1,18 +1,19 @@
 -- What 01's check of a store says of its bits: the needed words are there, and none of their bits stands at or past the capacity. Assumes nothing.
-use mathlib.Core.Path.{_≡_, refl, sym, _∙_}
+use mathlib.Core.Path.{_≡_, refl, sym, ap, ap₂, _∙_}
 use mathlib.Core.Bool.{Bool, true, false, not, _&&_, false≢true}
 use mathlib.Core.List.{List}
 use Prim.Native.Nat.{ℕ, _+_, _-_, _*_, _/_, _%_, _^_, _≤_, _<_}
+use native.Mathlib.Nat.{add-zero}
 use native.Mathlib.Omega.{arith}
-use borrow.Author.Tests.{eqb-true, leb-true, ltb-false, not-true, not-false}
+use borrow.Author.Tests.{eqb-true, leb-true, ltb-false, lt-ltb, not-true, not-false}
 use lib.Count.{ones}
 use lib.Dec.{eqb, ltb}
 use lib.ListN.{length, getD}
 use Rattle.bounds.specs.Bounds.{maxBits}
-use Rattle.laws.specs.Counting.{rank}
+use Rattle.laws.specs.Counting.{one, rank}
 use Rattle.laws.specs.Bits.{has, Words, wordsFor}
-use Rattle.laws.proofs.Ranks.{none-rank}
-use Rattle.laws.proofs.Digits.{ones-test}
+use Rattle.laws.proofs.Ranks.{eqb-both, none-rank, rank-below, sum-range}
+use Rattle.laws.proofs.Digits.{ones-none, ones-zero}
 use Rattle.laws.proofs.Words.{rank-rest}
 use Rattle.bitvector.specs.Sets.{setOf}
 use Rattle.bitvector.specs.Calls.{roomy, sound}
@@ -53,7 +54,7 @@ sound-part capacity ws r f n =
     let a : 64 * wordsFor capacity - capacity ≡ 64 - k = omega arith in
     let b : 64 * i + k ≡ capacity = omega arith in
     let e : rank (λ j. has ws (capacity + j)) (64 - k) ≡ ones (getD ws i 0 / 2 ^ k) = rw b at (rank-rest ws f i k (omega arith)) in
-    rw (r, a, e) (ones-test (getD ws i 0 / 2 ^ k))
+    rw (r, a, e) (eqb-both (ones (getD ws i 0 / 2 ^ k)) 0 (getD ws i 0 / 2 ^ k) 0 (ones-none _) (ones-zero _))
 
 module _ (capacity : ℕ) (ws : List ℕ) (s : sound capacity ws ≡ true) where
   pub sound-room : Roomy capacity ws
@@ -66,7 +67,19 @@ module _ (capacity : ℕ) (ws : List ℕ) (s : sound capacity ws ≡ true) where
       let e : capacity + (b - capacity) ≡ b = omega arith in
       rw e at (none-rank (λ k. has ws (capacity + k)) (64 * wordsFor capacity - capacity) (eqb-true _ _ (both (roomy capacity ws) _ s .1)) (b - capacity) (omega arith))
 
-  -- so the needed words hold the set and nothing else
+  -- so the bits set in the needed words are the numbers of the set
+  pub set-size : rank (has ws) (64 * wordsFor capacity) ≡ rank (setOf capacity ws) capacity
+  unfolding sound
+  set-size =
+      let m : ℕ = 64 * wordsFor capacity - capacity in
+      let e : 64 * wordsFor capacity ≡ capacity + m = omega arith in
+      ap (rank (has ws)) e ∙ sum-range (λ p. one (has ws p)) capacity m
+      ∙ ap₂ (λ (x y : ℕ). x + y)
+      (rank-below (has ws) (setOf capacity ws) capacity (λ b l. rw (lt-ltb b capacity l)))
+      (eqb-true (rank (λ k. has ws (capacity + k)) m) 0 (both (roomy capacity ws) _ s .1))
+      ∙ add-zero (rank (setOf capacity ws) capacity)
+
+  -- and the needed words hold the set and nothing else
   pub set-bits : (b : ℕ) → b < 64 * wordsFor capacity → setOf capacity ws b ≡ has ws b
   set-bits b h = go (ltb b capacity) refl
     where

@@ -67,11 +67,13 @@ onesCall capacity ws =
     check (roomy capacity ws) 10 ws
     (answered 0 (stored capacity (allBelow capacity) ws))
 
+-- yes: there is no number in the set
 abbrev pub isEmptyCall : ℕ → List ℕ → Outcome
 isEmptyCall capacity ws =
     check (sound capacity ws) 10 ws
-    (answered (one (sameBelow (setOf capacity ws) none capacity)) ws)
+    (answered (one (eqb (rank (setOf capacity ws) capacity) 0)) ws)
 
+-- how many numbers are in the set
 abbrev pub lenCall : ℕ → List ℕ → Outcome
 lenCall capacity ws =
     check (sound capacity ws) 10 ws

@@ -7,7 +7,7 @@ ghost use Rattle.bounds.specs.Bounds.{maxBits};
 ghost use Rattle.laws.specs.Counting.{one};
 ghost use Rattle.laws.specs.Bits.{wordsFor, has, withBit, withoutBit};
 ghost use Rattle.bitvector.specs.Steps.{Step};
-ghost use Rattle.bitvector.specs.Calls.{answered, said, roomy, sound, containsCall, insertCall, removeCall};
+ghost use Rattle.bitvector.specs.Calls.{answered, counted, said, roomy, sound, isEmptyCall, lenCall, containsCall, insertCall, removeCall};
 use bounds::MAX_BITS;
 use refusal::Refusal;
 
@@ -110,6 +110,37 @@ fn yes_if(yes: bool) -> Said
 }
 
 // ---- the calls
+
+// Whether the set has no number.
+pub fn is_empty(capacity: u64, words: &[u64]) -> Said
+    ensures { λ r. ⌜ said r (now (words .exit)) ≡ isEmptyCall capacity (now (words .entry)) ⌝ }
+{
+    if !is_sound(capacity, words) {
+        return Said::Refused(Refusal::UnfitSet);
+    }
+    let need = u64s(capacity) as usize;
+    for i in 0..need {
+        if words[i] != 0 {
+            return Said::No;
+        }
+    }
+    Said::Yes
+}
+
+// How many numbers the set has.
+pub fn len(capacity: u64, words: &[u64]) -> Counted
+    ensures { λ r. ⌜ counted r (now (words .exit)) ≡ lenCall capacity (now (words .entry)) ⌝ }
+{
+    if !is_sound(capacity, words) {
+        return Counted::Refused(Refusal::UnfitSet);
+    }
+    let need = u64s(capacity) as usize;
+    let mut n: u64 = 0;
+    for i in 0..need {
+        n += u64::count_ones(words[i]) as u64;
+    }
+    Counted::Count(n)
+}
 
 pub fn contains(capacity: u64, words: &[u64], bit: u64) -> Said
     ensures { λ r. ⌜ said r (now (words .exit)) ≡ containsCall capacity (now (words .entry)) bit ⌝ }

@@ -10,11 +10,10 @@ use native.Mathlib.Omega.{arith}
 use lib.Arith.{bin-ind, digits-mod, lt-one}
 use lib.Bits.{bitOr, or-shr, or-step}
 use lib.Count.{ones, ones-cat, ones-step, trailingZeros, under}
-use lib.Dec.{eqb}
 use lib.Pow.{pow-pos, pow-add, mod-pow-add, pow-lt, shl-shr, shr-lt, shr-shr, high}
 use Rattle.laws.specs.Counting.{one, sum}
 use Rattle.laws.specs.Bits.{digit, number}
-use Rattle.laws.proofs.Ranks.{sum-below, eqb-both}
+use Rattle.laws.proofs.Ranks.{sum-below}
 
 pub digit-lt : (w k : ℕ) → digit w k < 2
 digit-lt w k = omega arith
@@ -156,13 +155,13 @@ ones-low w zero = let e : w % 1 ≡ 0 = omega arith in ap ones e
 ones-low w (suc k) =
     ap ones (low-suc w k) ∙ ones-cat k (digit w k) (w % 2 ^ k) (mod-lt w (pow-pos k)) ∙ omega (arith, ones-digit (digit w k) (digit-lt w k), ones-low w k)
 
--- a number with no ones is 0
-ones-none : (w : ℕ) → ones w ≡ 0 → w ≡ 0
+-- a number has no ones exactly if it is 0
+pub ones-none : (w : ℕ) → ones w ≡ 0 → w ≡ 0
 ones-none w = bin-ind (λ (n : ℕ). ones n ≡ 0 → n ≡ 0) (λ e. refl) (λ n r e. omega (arith, ones-step n, r (omega (arith, ones-step n)))) w
 
-pub ones-test : (w : ℕ) → eqb (ones w) 0 ≡ eqb w 0
+pub ones-zero : (w : ℕ) → w ≡ 0 → ones w ≡ 0
 unfolding ones
-ones-test w = eqb-both (ones w) 0 w 0 (ones-none w) (λ e. ap ones e)
+ones-zero w e = ap ones e
 
 -- a shift to the bottom drops the low k digits
 pub digit-shr : (w k j : ℕ) → digit (w / 2 ^ k) j ≡ digit w (k + j)

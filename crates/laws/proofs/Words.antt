@@ -5,6 +5,7 @@ use mathlib.Core.List.{List, [], _∷_}
 use mathlib.Core.Logic.{_≢_}
 use Prim.Native.Nat.{ℕ, zero, suc, _+_, _-_, _*_, _/_, _%_, _^_, _≤_, _<_}
 use native.Mathlib.Nat.{add-zero, le-refl, lt-of-le-of-lt, mod-eq-of-lt, mod-lt, sub-le}
+use native.Mathlib.Numerals.{add-one}
 use native.Mathlib.Decide.{ℕ-discrete}
 use native.Mathlib.Omega.{arith}
 use borrow.Author.Tests.{eqb-true, eqb-false, eq-eqb, ne-eqb}
@@ -276,13 +277,15 @@ rank-word ws i k h =
     ∙ ap (λ (n : ℕ). rank (has ws) (64 * i) + n)
     (sum-below _ _ k (λ j l. has-one ws (64 * i + j) ∙ bit-in-word ws i j (omega arith)) ∙ sym (ones-low (getD ws i 0) k))
 
+pub rank-next : (ws : List ℕ) → Words ws → (i : ℕ) → rank (has ws) (64 * (i + 1)) ≡ rank (has ws) (64 * i) + ones (getD ws i 0)
+rank-next ws f i =
+    let e : 64 * (i + 1) ≡ 64 * i + 64 = omega arith in
+    ap (rank (has ws)) e ∙ rank-word ws i 64 (lit≤ tt) ∙ ap (λ (w : ℕ). rank (has ws) (64 * i) + ones w) (mod-eq-of-lt (f i))
+
 -- the ones of the first i words are the set bits there
 pub rank-words : (ws : List ℕ) → Words ws → (i : ℕ) → rank (has ws) (64 * i) ≡ sum (λ j. ones (getD ws j 0)) i
 rank-words ws f zero = refl
-rank-words ws f (suc i) =
-    let e : 64 * suc i ≡ 64 * i + 64 = omega arith in
-    let q : ones (getD ws i 0 % 2 ^ 64) ≡ ones (getD ws i 0) = ap ones (mod-eq-of-lt (f i)) in
-    ap (rank (has ws)) e ∙ rank-word ws i 64 (lit≤ tt) ∙ omega (arith, rank-words ws f i, q)
+rank-words ws f (suc i) = ap (λ (n : ℕ). rank (has ws) (64 * n)) (sym (add-one i)) ∙ rank-next ws f i ∙ omega (arith, rank-words ws f i)
 
 pub rank-at : (ws : List ℕ) → Words ws → (i k : ℕ) → k ≤ 64 → rank (has ws) (64 * i + k) ≡ sum (λ j. ones (getD ws j 0)) i + ones (getD ws i 0 % 2 ^ k)
 rank-at ws f i k h = rank-word ws i k h ∙ ap (λ (n : ℕ). n + ones (getD ws i 0 % 2 ^ k)) (rank-words ws f i)
