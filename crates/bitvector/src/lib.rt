@@ -1,8 +1,31 @@
 // Sets of numbers below a capacity, in words that the caller lends (01's module 1): bit b is bit b mod 64 of word b / 64.
 ghost use mathlib.Core.Path.{_≡_};
-ghost use Prim.Native.Nat.{_≤_};
+ghost use Prim.Native.Nat.{ℕ, _/_, _≤_, _<_};
+ghost use mathlib.Core.List.{List, _++_};
+ghost use lib.ListN.{length, drop, replicate};
 ghost use Rattle.bounds.specs.Bounds.{maxBits};
-ghost use Rattle.laws.specs.Bits.{wordsFor};
+ghost use Rattle.laws.specs.Counting.{one};
+ghost use Rattle.laws.specs.Bits.{wordsFor, has, withBit, withoutBit};
+ghost use Rattle.bitvector.specs.Steps.{Step};
+ghost use Rattle.bitvector.specs.Calls.{answered, counted, said, roomy, sound, isEmptyCall, lenCall, containsCall, insertCall, removeCall};
+use bounds::MAX_BITS;
+use refusal::Refusal;
+
+pub enum Made {
+    Done,
+    Refused(Refusal),
+}
+
+pub enum Said {
+    Yes,
+    No,
+    Refused(Refusal),
+}
+
+pub enum Counted {
+    Count(u64),
+    Refused(Refusal),
+}
 
 // The words that so many bits take.
 pub fn u64s(bits: u64) -> u64
@@ -10,4 +33,149 @@ pub fn u64s(bits: u64) -> u64
     ensures { λ r. ⌜ r ≡ wordsFor bits ⌝ }
 {
     (bits + 63) / 64
+}
+
+// ---- one bit, in words that are there
+
+pub fn has_bit(words: &[u64], bit: u64) -> bool
+    requires { ⌜ bit / 64 < length (now words) ⌝ }
+    ensures { λ r. ⌜ r ≡ has (now (words .entry)) bit ⌝ }
+{
+    let at = (bit / 64) as usize;
+    let k = bit % 64;
+    (words[at] >> k) % 2 == 1
+}
+
+// Sets the bit; whether it was set before.
+pub fn add_bit(words: &mut [u64], bit: u64) -> bool
+    requires { ⌜ bit / 64 < length (now words) ⌝ }
+    ensures { λ r. ⌜ Step (now (words .entry)) bit (withBit (now (words .entry)) bit) r (now (words .exit)) ⌝ }
+{
+    let at = (bit / 64) as usize;
+    let k = bit % 64;
+    let w = words[at];
+    if (w >> k) % 2 == 1 {
+        return true;
+    }
+    words[at] = w + (1 << k);
+    false
+}
+
+// Clears the bit; whether it was set before.
+pub fn drop_bit(words: &mut [u64], bit: u64) -> bool
+    requires { ⌜ bit / 64 < length (now words) ⌝ }
+    ensures { λ r. ⌜ Step (now (words .entry)) bit (withoutBit (now (words .entry)) bit) r (now (words .exit)) ⌝ }
+{
+    let at = (bit / 64) as usize;
+    let k = bit % 64;
+    let w = words[at];
+    if (w >> k) % 2 == 1 {
+        words[at] = w - (1 << k);
+        return true;
+    }
+    false
+}
+
+// ---- the checks
+
+// Whether the store has the words that a capacity needs, and the capacity is within the bound.
+fn has_room(capacity: u64, words: &[u64]) -> bool
+    ensures { λ r. ⌜ r ≡ roomy capacity (now (words .entry)) ⌝ }
+{
+    if capacity > MAX_BITS {
+        return false;
+    }
+    u64s(capacity) <= words.len() as u64
+}
+
+// And whether the last of them has no bit at or past the capacity.
+fn is_sound(capacity: u64, words: &[u64]) -> bool
+    ensures { λ r. ⌜ r ≡ sound capacity (now (words .entry)) ⌝ }
+{
+    if !has_room(capacity, words) {
+        return false;
+    }
+    let past = capacity % 64;
+    if past == 0 {
+        return true;
+    }
+    let at = (capacity / 64) as usize;
+    words[at] >> past == 0
+}
+
+fn yes_if(yes: bool) -> Said
+    ensures { λ r. ⌜ ((store : List ℕ) → said r store ≡ answered (one yes) store) ⌝ }
+{
+    if yes { Said::Yes } else { Said::No }
+}
+
+// ---- the calls
+
+// Whether the set has no number.
+pub fn is_empty(capacity: u64, words: &[u64]) -> Said
+    ensures { λ r. ⌜ said r (now (words .exit)) ≡ isEmptyCall capacity (now (words .entry)) ⌝ }
+{
+    if !is_sound(capacity, words) {
+        return Said::Refused(Refusal::UnfitSet);
+    }
+    let need = u64s(capacity) as usize;
+    for i in 0..need {
+        if words[i] != 0 {
+            return Said::No;
+        }
+    }
+    Said::Yes
+}
+
+// How many numbers the set has.
+pub fn len(capacity: u64, words: &[u64]) -> Counted
+    ensures { λ r. ⌜ counted r (now (words .exit)) ≡ lenCall capacity (now (words .entry)) ⌝ }
+{
+    if !is_sound(capacity, words) {
+        return Counted::Refused(Refusal::UnfitSet);
+    }
+    let need = u64s(capacity) as usize;
+    let mut n: u64 = 0;
+    for i in 0..need {
+        n += u64::count_ones(words[i]) as u64;
+    }
+    Counted::Count(n)
+}
+
+pub fn contains(capacity: u64, words: &[u64], bit: u64) -> Said
+    ensures { λ r. ⌜ said r (now (words .exit)) ≡ containsCall capacity (now (words .entry)) bit ⌝ }
+{
+    if !is_sound(capacity, words) {
+        return Said::Refused(Refusal::UnfitSet);
+    }
+    if bit >= capacity {
+        return Said::Refused(Refusal::BitOutside);
+    }
+    yes_if(has_bit(words, bit))
+}
+
+// Whether the bit is new.
+pub fn insert(capacity: u64, words: &mut [u64], bit: u64) -> Said
+    ensures { λ r. ⌜ said r (now (words .exit)) ≡ insertCall capacity (now (words .entry)) bit ⌝ }
+{
+    if !is_sound(capacity, words) {
+        return Said::Refused(Refusal::UnfitSet);
+    }
+    if bit >= capacity {
+        return Said::Refused(Refusal::BitOutside);
+    }
+    yes_if(!add_bit(words, bit))
+}
+
+// Whether the bit was there.
+pub fn remove(capacity: u64, words: &mut [u64], bit: u64) -> Said
+    ensures { λ r. ⌜ said r (now (words .exit)) ≡ removeCall capacity (now (words .entry)) bit ⌝ }
+{
+    if !is_sound(capacity, words) {
+        return Said::Refused(Refusal::UnfitSet);
+    }
+    if bit >= capacity {
+        return Said::Refused(Refusal::BitOutside);
+    }
+    yes_if(drop_bit(words, bit))
 }

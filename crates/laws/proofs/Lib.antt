@@ -1,1 +1,4 @@
 pub mod Sums
+pub mod Ranks
+pub mod Digits
+pub mod Words

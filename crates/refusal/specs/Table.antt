@@ -1,0 +1,33 @@
+-- 01's table of refusal numbers: the number of each case, and the value that it carries.
+use Prim.Native.Nat.{ℕ}
+use Rattle.refusal.specs.declared.Refusal.{Refusal}
+use Rattle.refusal.specs.declared.Refusal.the-variants.{GammaTooSmall, GammaTooLarge, TooManyIds, ShortWorkStore, NoRoomForLevel, IdsRemain, UnfitHead, UnfitRow, BitOutside, UnfitSet, ShortOutput, WrongIds}
+
+abbrev pub numberOf : Refusal → ℕ
+numberOf GammaTooSmall = 1
+numberOf GammaTooLarge = 2
+numberOf TooManyIds = 3
+numberOf ShortWorkStore = 4
+numberOf (NoRoomForLevel level) = 5
+numberOf (IdsRemain ids) = 6
+numberOf UnfitHead = 7
+numberOf UnfitRow = 8
+numberOf BitOutside = 9
+numberOf UnfitSet = 10
+numberOf ShortOutput = 11
+numberOf WrongIds = 12
+
+-- 5 carries the level, 6 how many ids remain; the others nothing, which is 0
+abbrev pub valueOf : Refusal → ℕ
+valueOf GammaTooSmall = 0
+valueOf GammaTooLarge = 0
+valueOf TooManyIds = 0
+valueOf ShortWorkStore = 0
+valueOf (NoRoomForLevel level) = level
+valueOf (IdsRemain ids) = ids
+valueOf UnfitHead = 0
+valueOf UnfitRow = 0
+valueOf BitOutside = 0
+valueOf UnfitSet = 0
+valueOf ShortOutput = 0
+valueOf WrongIds = 0

@@ -1,0 +1,70 @@
+// Why a call is refused: 01's table of refusal numbers, a case for each, with the value that it carries.
+ghost use mathlib.Core.Path.{_≡_};
+ghost use Rattle.refusal.specs.Table.{numberOf, valueOf};
+
+pub enum Refusal {
+    // 1: gamma is not above 1.01.
+    GammaTooSmall,
+    // 2: gamma is above 16.
+    GammaTooLarge,
+    // 3: more ids than the bound.
+    TooManyIds,
+    // 4: the rest store or the collide store is too short.
+    ShortWorkStore,
+    // 5: the word store or the sample store has no room for this level.
+    NoRoomForLevel(u64),
+    // 6: so many ids remain after the last level.
+    IdsRemain(u64),
+    // 7: the head does not fit its bounds or its stores.
+    UnfitHead,
+    // 8: a set bit whose sample or row cannot be.
+    UnfitRow,
+    // 9: the bit is not below the capacity.
+    BitOutside,
+    // 10: the store does not hold a set of the capacity.
+    UnfitSet,
+    // 11: the member, row or mark store is too short.
+    ShortOutput,
+    // 12: the ids are not those of the index.
+    WrongIds,
+}
+
+// The refusal's number in 01's table.
+pub fn number(r: Refusal) -> u64
+    ensures { λ n. ⌜ n ≡ numberOf r ⌝ }
+{
+    match r {
+        Refusal::GammaTooSmall => 1,
+        Refusal::GammaTooLarge => 2,
+        Refusal::TooManyIds => 3,
+        Refusal::ShortWorkStore => 4,
+        Refusal::NoRoomForLevel(_) => 5,
+        Refusal::IdsRemain(_) => 6,
+        Refusal::UnfitHead => 7,
+        Refusal::UnfitRow => 8,
+        Refusal::BitOutside => 9,
+        Refusal::UnfitSet => 10,
+        Refusal::ShortOutput => 11,
+        Refusal::WrongIds => 12,
+    }
+}
+
+// The value that 5 or 6 carries, else 0.
+pub fn value(r: Refusal) -> u64
+    ensures { λ n. ⌜ n ≡ valueOf r ⌝ }
+{
+    match r {
+        Refusal::GammaTooSmall => 0,
+        Refusal::GammaTooLarge => 0,
+        Refusal::TooManyIds => 0,
+        Refusal::ShortWorkStore => 0,
+        Refusal::NoRoomForLevel(level) => level,
+        Refusal::IdsRemain(ids) => ids,
+        Refusal::UnfitHead => 0,
+        Refusal::UnfitRow => 0,
+        Refusal::BitOutside => 0,
+        Refusal::UnfitSet => 0,
+        Refusal::ShortOutput => 0,
+        Refusal::WrongIds => 0,
+    }
+}
