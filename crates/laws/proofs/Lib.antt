@@ -1,1 +1,4 @@
+pub mod Cases
 pub mod Sums
+pub mod Counts
+pub mod Blocks
