@@ -4,7 +4,7 @@ use mathlib.Core.Bool.{Bool, true, false, not, _&&_, _||_}
 use mathlib.Core.List.{List, [], _∷_}
 use mathlib.Core.Option.{Option, none, some}
 use lib.Dec.{T, eqb, ltb}
-use Rattle.rule.specs.Rule.{left, span, bit, Room, Outcome, built, noRoom, idsLeft, runFrom, run, rowAt, sample, Place, first, find, rowList}
+use Rattle.rule.specs.Rule.{Rule, left, span, bit, Room, Outcome, built, noRoom, idsLeft, runFrom, run, rowAt, sample, Place, first, find, rowList}
 
 abbrev all : List Bool → Bool
 all [] = true
@@ -30,11 +30,8 @@ shown none = []
 shown (some u) = u .row ∷ u .level ∷ u .position ∷ []
 
 -- The position in level i is decimal digit i of the id, modulo the size; r ids have r + 7 bits. A level takes a word for each bit, and one sample.
-abbrev pos : ℕ → ℕ → ℕ → ℕ
-pos i s x = x / 10 ^ i % s
-
-abbrev size : ℕ → ℕ
-size r = r + 7
+abbrev digits : Rule
+digits = record { pos = λ i s x. x / 10 ^ i % s; size = λ r. r + 7 }
 
 abbrev room : ℕ → ℕ → Room
 room words samples = record { words = λ s. s; samples = λ s. 1; wordRoom = words; sampleRoom = samples }
@@ -61,34 +58,34 @@ many i p = ltb p 576
 
 rows : T (all
     -- three ids: 11 and 21 go on, in their order, to a smaller level; the run is built with two levels, where there is room for them
-    (equal (left pos size three 1) (11 ∷ 21 ∷ [])
-    ∷ equal (left pos size three 2) []
-    ∷ equal (span pos size three 0 ∷ span pos size three 1 ∷ []) (10 ∷ 9 ∷ [])
-    ∷ not (bit pos size three 0 1)
-    ∷ bit pos size three 0 2
-    ∷ bit pos size three 1 1
-    ∷ ends (run pos size (room 19 2) three 4) (built 2)
-    ∷ ends (run pos size (room 19 2) three 2) (built 2)
-    ∷ ends (run pos size (room 18 2) three 4) (noRoom 1)
-    ∷ ends (run pos size (room 19 1) three 4) (noRoom 1)
-    ∷ ends (run pos size (room 9 2) three 4) (noRoom 0)
-    ∷ ends (run pos size (room 19 2) three 1) (idsLeft 2)
+    (equal (left digits three 1) (11 ∷ 21 ∷ [])
+    ∷ equal (left digits three 2) []
+    ∷ equal (span digits three 0 ∷ span digits three 1 ∷ []) (10 ∷ 9 ∷ [])
+    ∷ not (bit digits three 0 1)
+    ∷ bit digits three 0 2
+    ∷ bit digits three 1 1
+    ∷ ends (run digits (room 19 2) three 4) (built 2)
+    ∷ ends (run digits (room 19 2) three 2) (built 2)
+    ∷ ends (run digits (room 18 2) three 4) (noRoom 1)
+    ∷ ends (run digits (room 19 1) three 4) (noRoom 1)
+    ∷ ends (run digits (room 9 2) three 4) (noRoom 0)
+    ∷ ends (run digits (room 19 2) three 1) (idsLeft 2)
     -- their rows go on from level to level; a foreign id has no row, or the row of another
-    ∷ equal (shown (find pos size three 2 32)) (0 ∷ 0 ∷ 2 ∷ [])
-    ∷ equal (shown (find pos size three 2 11)) (1 ∷ 1 ∷ 1 ∷ [])
-    ∷ equal (shown (find pos size three 2 21)) (2 ∷ 1 ∷ 2 ∷ [])
-    ∷ equal (shown (find pos size three 2 45)) []
-    ∷ equal (shown (find pos size three 2 92)) (0 ∷ 0 ∷ 2 ∷ [])
-    ∷ equal (rowList pos size three 2) (32 ∷ 11 ∷ 21 ∷ [])
+    ∷ equal (shown (find digits three 2 32)) (0 ∷ 0 ∷ 2 ∷ [])
+    ∷ equal (shown (find digits three 2 11)) (1 ∷ 1 ∷ 1 ∷ [])
+    ∷ equal (shown (find digits three 2 21)) (2 ∷ 1 ∷ 2 ∷ [])
+    ∷ equal (shown (find digits three 2 45)) []
+    ∷ equal (shown (find digits three 2 92)) (0 ∷ 0 ∷ 2 ∷ [])
+    ∷ equal (rowList digits three 2) (32 ∷ 11 ∷ 21 ∷ [])
     -- a bit that three ids share stays clear
-    ∷ not (bit pos size shared 0 1)
-    ∷ equal (left pos size shared 1) shared
+    ∷ not (bit digits shared 0 1)
+    ∷ equal (left digits shared 1) shared
     -- an id given twice is left to the end
-    ∷ ends (run pos size (room 100 10) twice 3) (idsLeft 2)
+    ∷ ends (run digits (room 100 10) twice 3) (idsLeft 2)
     -- no ids: one level, and no row
-    ∷ ends (run pos size (room 7 1) [] 4) (built 1)
-    ∷ ends (run pos size (room 6 1) [] 4) (noRoom 0)
-    ∷ equal (shown (find pos size [] 1 5)) []
+    ∷ ends (run digits (room 7 1) [] 4) (built 1)
+    ∷ ends (run digits (room 6 1) [] 4) (noRoom 0)
+    ∷ equal (shown (find digits [] 1 5)) []
     -- rows and samples of given bits
     ∷ equal (rowAt wide few 0 3 ∷ rowAt wide few 0 64 ∷ rowAt wide few 0 200 ∷ rowAt wide few 1 64 ∷ []) (0 ∷ 1 ∷ 2 ∷ 4 ∷ [])
     ∷ equal (sample wide many 0 0 ∷ sample wide many 0 1 ∷ sample wide many 1 1 ∷ []) (0 ∷ 512 ∷ 1088 ∷ [])

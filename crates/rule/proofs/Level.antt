@@ -6,25 +6,28 @@ use Prim.Native.Nat.{ℕ, _+_, _*_, _≤_, _<_}
 use native.Mathlib.Omega.{arith}
 use lib.Dec.{eqb}
 use lib.ListN.{length}
-use borrow.Author.Tests.{eqb-true, ne-eqb}
+use borrow.Author.Tests.{eqb-true}
 use Rattle.laws.specs.Counting.{one, tally, rank, hits, count, Same}
 use Rattle.laws.proofs.Cases.{Tri, lt, eq, gt, tri}
 use Rattle.laws.proofs.Sums.{sum-same}
 use Rattle.laws.proofs.Counts.{double-all, same-total, length-sift, tally-not, count-sift, count-le-hits, two-hits}
 use Rattle.rule.specs.Rule.{single, rest}
 
--- a set bit counts its one id
-once : (h : ℕ) → one (eqb h 1) ≡ one (eqb h 1) * h
-once h = go (eqb h 1) refl
-  where
-    go : (b : Bool) → eqb h 1 ≡ b → one b ≡ one b * h
-    go true e = omega (arith, eqb-true h 1 e)
-    go false e = omega arith
-
 module _ (g : ℕ → ℕ) (xs : List ℕ) where
-  -- the set bits below s are as many as the ids that have one
+  -- a set bit has exactly one id
+  pub set-one : (p : ℕ) → single g xs p ≡ true → hits g p xs ≡ 1
+  set-one p e = eqb-true (hits g p xs) 1 e
+
+  -- so the set bits below s are as many as the ids that have one
   set-bits : (s : ℕ) → ((x : ℕ) → g x < s) → rank (single g xs) s ≡ tally (λ x. single g xs (g x)) xs
-  set-bits s h = sum-same _ _ (λ p. once (hits g p xs)) s ∙ sym (double-all (λ p. one (single g xs p)) g s h xs)
+  set-bits s h = sum-same _ _ each s ∙ sym (double-all (λ p. one (single g xs p)) g s h xs)
+    where
+      each : (p : ℕ) → one (single g xs p) ≡ one (single g xs p) * hits g p xs
+      each p = go (single g xs p) refl
+        where
+          go : (b : Bool) → single g xs p ≡ b → one b ≡ one b * hits g p xs
+          go true e = omega (arith, set-one p e)
+          go false e = omega arith
 
   -- each id has a set bit of its own, or goes on
   pub level-balance : (s : ℕ) → ((x : ℕ) → g x < s) → rank (single g xs) s + length (rest g xs) ≡ length xs
@@ -42,16 +45,20 @@ module _ (g : ℕ → ℕ) (xs : List ℕ) where
 
   -- an id that stands twice has no bit
   pub twice-unset : (x : ℕ) → 2 ≤ count x xs → single g xs (g x) ≡ false
-  twice-unset x h = ne-eqb (hits g (g x) xs) 1 (λ e. omega (arith, count-le-hits g x xs))
+  twice-unset x h = go (single g xs (g x)) refl
+    where
+      go : (b : Bool) → single g xs (g x) ≡ b → b ≡ false
+      go true e = absurd (omega (arith, set-one (g x) e, count-le-hits g x xs))
+      go false e = refl
 
-  -- a set bit has one id
+  -- two ids that share a set bit are one
   pub one-id : (x y : ℕ) → single g xs (g x) ≡ true → g x ≡ g y → 0 < count x xs → 0 < count y xs → x ≡ y
   one-id x y e p a b = go (tri x y)
     where
       go : Tri x y → x ≡ y
-      go (lt h) = absurd (omega (arith, two-hits g x y xs (omega arith) p, eqb-true (hits g (g x) xs) 1 e))
+      go (lt h) = absurd (omega (arith, two-hits g x y xs (omega arith) p, set-one (g x) e))
       go (eq q) = q
-      go (gt h) = absurd (omega (arith, two-hits g x y xs (omega arith) p, eqb-true (hits g (g x) xs) 1 e))
+      go (gt h) = absurd (omega (arith, two-hits g x y xs (omega arith) p, set-one (g x) e))
 
 -- order does not matter: ids of the same members set the same bits, and the same members go on
 module _ (g : ℕ → ℕ) {xs ys : List ℕ} (s : Same xs ys) where

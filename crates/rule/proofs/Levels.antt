@@ -7,39 +7,39 @@ use native.Mathlib.Decide.{le-ind}
 use native.Mathlib.Omega.{arith}
 use lib.ListN.{length}
 use Rattle.laws.specs.Counting.{count}
-use Rattle.rule.specs.Rule.{left, span, bit, ones, base}
-use Rattle.rule.specs.Demand.{Levels}
+use Rattle.rule.specs.Rule.{Rule, left, span, bit, base}
+use Rattle.rule.specs.Demand.{Sound, Levels}
 use Rattle.rule.proofs.Level.{level-balance, rest-length, rest-all, rest-none, twice-unset}
 
-module _ (pos : ℕ → ℕ → ℕ → ℕ) (size : ℕ → ℕ) (ids : List ℕ) where
+module _ (rule : Rule) (ids : List ℕ) where
   -- the position of x in level i, and whether its bit is set there
   abbrev pub spot : ℕ → ℕ → ℕ
-  spot i x = pos i (span pos size ids i) x
+  spot i x = rule .pos i (span rule ids i) x
 
   abbrev pub marked : ℕ → ℕ → Bool
-  marked i x = bit pos size ids i (spot i x)
+  marked i x = bit rule ids i (spot i x)
 
   -- x stays as often as it stood where its bit is not set, and goes where it is
-  pub stays : (i x : ℕ) → marked i x ≡ false → count x (left pos size ids (suc i)) ≡ count x (left pos size ids i)
+  pub stays : (i x : ℕ) → marked i x ≡ false → count x (left rule ids (suc i)) ≡ count x (left rule ids i)
   unfolding left
-  stays i x e = rest-all (spot i) (left pos size ids i) x e
+  stays i x e = rest-all (spot i) (left rule ids i) x e
 
-  pub goes : (i x : ℕ) → marked i x ≡ true → count x (left pos size ids (suc i)) ≡ 0
+  pub goes : (i x : ℕ) → marked i x ≡ true → count x (left rule ids (suc i)) ≡ 0
   unfolding left
-  goes i x e = rest-none (spot i) (left pos size ids i) x e
+  goes i x e = rest-none (spot i) (left rule ids i) x e
 
-  fewer : (i x : ℕ) → count x (left pos size ids (suc i)) ≤ count x (left pos size ids i)
+  fewer : (i x : ℕ) → count x (left rule ids (suc i)) ≤ count x (left rule ids i)
   fewer i x = go (marked i x) refl
     where
-      go : (b : Bool) → marked i x ≡ b → count x (left pos size ids (suc i)) ≤ count x (left pos size ids i)
+      go : (b : Bool) → marked i x ≡ b → count x (left rule ids (suc i)) ≤ count x (left rule ids i)
       go true e = omega (arith, goes i x e)
       go false e = omega (arith, stays i x e)
 
-  pub fewer-le : (x : ℕ) {i j : ℕ} → i ≤ j → count x (left pos size ids j) ≤ count x (left pos size ids i)
-  fewer-le x {i} {j} h = le-ind (λ (k : ℕ). count x (left pos size ids k) ≤ count x (left pos size ids i)) (omega arith) (λ k l e. omega (arith, fewer k x)) j h
+  pub fewer-le : (x : ℕ) {i j : ℕ} → i ≤ j → count x (left rule ids j) ≤ count x (left rule ids i)
+  fewer-le x {i} {j} h = le-ind (λ (k : ℕ). count x (left rule ids k) ≤ count x (left rule ids i)) (omega arith) (λ k l e. omega (arith, fewer k x)) j h
 
   -- an id that is left has no bit set in the levels before
-  pub unset : (x i j : ℕ) → i < j → 0 < count x (left pos size ids j) → marked i x ≡ false
+  pub unset : (x i j : ℕ) → i < j → 0 < count x (left rule ids j) → marked i x ≡ false
   unset x i j h m = go (marked i x) refl
     where
       go : (b : Bool) → marked i x ≡ b → b ≡ false
@@ -47,33 +47,33 @@ module _ (pos : ℕ → ℕ → ℕ → ℕ) (size : ℕ → ℕ) (ids : List �
       go false e = refl
 
   -- an id that stands twice is left by every level
-  pub twice : (x : ℕ) → 2 ≤ count x ids → (i : ℕ) → 2 ≤ count x (left pos size ids i)
+  pub twice : (x : ℕ) → 2 ≤ count x ids → (i : ℕ) → 2 ≤ count x (left rule ids i)
   unfolding left
   twice x h zero = h
   twice x h (suc i) =
       let r = twice x h i in
-      omega (arith, stays i x (twice-unset (spot i) (left pos size ids i) x r), r)
+      omega (arith, stays i x (twice-unset (spot i) (left rule ids i) x r), r)
 
   -- no level leaves more ids than came in
-  pub left-fewer : (i j : ℕ) → i ≤ j → length (left pos size ids j) ≤ length (left pos size ids i)
+  pub left-fewer : (i j : ℕ) → i ≤ j → length (left rule ids j) ≤ length (left rule ids i)
   unfolding left
   left-fewer i j h =
-      le-ind (λ (k : ℕ). length (left pos size ids k) ≤ length (left pos size ids i)) (omega arith)
-      (λ k l e. omega (arith, rest-length (spot k) (left pos size ids k))) j h
+      le-ind (λ (k : ℕ). length (left rule ids k) ≤ length (left rule ids i)) (omega arith)
+      (λ k l e. omega (arith, rest-length (spot k) (left rule ids k))) j h
 
-  module _ (within : (i s x : ℕ) → 0 < s → pos i s x < s) (positive : (n : ℕ) → 0 < size n) where
-    pub spot-lt : (i x : ℕ) → spot i x < span pos size ids i
-    spot-lt i x = within i (span pos size ids i) x (positive (length (left pos size ids i)))
+  module _ (sound : Sound rule) where
+    pub spot-lt : (i x : ℕ) → spot i x < span rule ids i
+    spot-lt i x = sound .within i (span rule ids i) x (sound .positive (length (left rule ids i)))
 
-    pub levels : Levels pos size ids
+    pub levels : Levels rule ids
     unfolding left
     levels = record {
-      balance = λ i. level-balance (spot i) (left pos size ids i) (span pos size ids i) (spot-lt i);
-      no-rise = λ mono i j h. mono (length (left pos size ids j)) (length (left pos size ids i)) (left-fewer i j h);
+      balance = λ i. level-balance (spot i) (left rule ids i) (span rule ids i) (spot-lt i);
+      no-rise = λ mono i j h. mono (length (left rule ids j)) (length (left rule ids i)) (left-fewer i j h);
     }
 
     -- every id has a set bit of its own below level i, or is left there
-    pub all-accounted : (i : ℕ) → base (span pos size ids) (bit pos size ids) i + length (left pos size ids i) ≡ length ids
+    pub all-accounted : (i : ℕ) → base (span rule ids) (bit rule ids) i + length (left rule ids i) ≡ length ids
     unfolding left
     all-accounted zero = omega arith
     all-accounted (suc i) = omega (arith, all-accounted i, levels .balance i)

@@ -1,5 +1,5 @@
--- The level rule of 01: which bits a level has, who goes on, how a run of levels ends, the row of an id and the row list.
--- It is over any position rule, `pos level size id`, and any size rule, `size remaining`. An id is a number that stands in a list of ids.
+-- The level rule of 01: which bits a level has, who goes on, how a run of levels ends, the row of an id, and the row list.
+-- It stands over any rule of positions and sizes. No word, no float and no mixer is named here.
 use mathlib.Core.Bool.{Bool, not, cond, _&&_}
 use mathlib.Core.List.{List, []}
 use mathlib.Core.Option.{Option, none, some}
@@ -8,7 +8,12 @@ use lib.Dec.{eqb, leb}
 use lib.ListN.{length}
 use Rattle.laws.specs.Counting.{sum, rank, hits, sift, blocks}
 
--- ---- one level, to which the ids xs come, each with the position g gives it
+-- A rule gives an id its position in a level of a given size, and a level its size by how many ids come to it.
+pub record Rule : Type 0 where
+  pub pos : (level size id : ℕ) → ℕ
+  pub size : (remaining : ℕ) → ℕ
+
+-- ---- one level, to which the ids xs come, each with its position by g
 
 -- the bit at p is set exactly if exactly one id has that position
 abbrev pub single : (ℕ → ℕ) → List ℕ → ℕ → Bool
@@ -20,19 +25,21 @@ rest g xs = sift (λ x. not (single g xs (g x))) xs
 
 -- ---- the levels of a list of ids
 
-module _ (pos : ℕ → ℕ → ℕ → ℕ) (size : ℕ → ℕ) (ids : List ℕ) where
-  -- the ids that are left before level i: all of them before level 0
+module _ (rule : Rule) (ids : List ℕ) where
+  -- the ids that are left before level i: before level 0, all of them
   unfoldable pub left : ℕ → List ℕ
   left zero = ids
-  left (suc i) = let xs = left i in rest (pos i (size (length xs))) xs
+  left (suc i) =
+      let xs = left i in
+      rest (rule .pos i (rule .size (length xs))) xs
 
   -- the size of level i
   abbrev pub span : ℕ → ℕ
-  span i = size (length (left i))
+  span i = rule .size (length (left i))
 
-  -- its bits
+  -- the bits of level i
   abbrev pub bit : ℕ → ℕ → Bool
-  bit i p = single (pos i (span i)) (left i) p
+  bit i p = single (rule .pos i (span i)) (left i) p
 
 -- ---- a run: one level after another, up to a limit, as far as the stores have room
 
@@ -42,8 +49,8 @@ start need span i = sum (λ j. need (span j)) i
 
 -- the words and the samples that a level of a given size takes, and how many of each the stores hold
 pub record Room : Type 0 where
-  pub words : ℕ → ℕ
-  pub samples : ℕ → ℕ
+  pub words : (size : ℕ) → ℕ
+  pub samples : (size : ℕ) → ℕ
   pub wordRoom : ℕ
   pub sampleRoom : ℕ
 
@@ -53,64 +60,62 @@ pub data Outcome : Type 0 where
   noRoom : ℕ → Outcome
   idsLeft : ℕ → Outcome
 
-module _ (pos : ℕ → ℕ → ℕ → ℕ) (size : ℕ → ℕ) (room : Room) (ids : List ℕ) where
+module _ (rule : Rule) (room : Room) (ids : List ℕ) where
   -- whether the stores have room for the levels before level i
   abbrev pub fits : ℕ → Bool
-  fits i =
-      leb (start (room .words) (span pos size ids) i) (room .wordRoom) && leb (start (room .samples) (span pos size ids) i) (room .sampleRoom)
+  fits i = leb (start (room .words) (span rule ids) i) (room .wordRoom) && leb (start (room .samples) (span rule ids) i) (room .sampleRoom)
 
-  -- The run from level i on, where n more levels are allowed. A level is begun only if there is room for it; if none are left after it, it was the last.
+  -- The run from level i on, where n more levels are allowed. A level is begun only if there is room for it; if no id is left after it, it is the last.
   unfoldable pub runFrom : ℕ → ℕ → Outcome
-  runFrom zero i = idsLeft (length (left pos size ids i))
+  runFrom zero i = idsLeft (length (left rule ids i))
   runFrom (suc n) i =
       let next = runFrom n (suc i) in
-      cond (fits (suc i)) (cond (eqb (length (left pos size ids (suc i))) 0) (built (suc i)) next) (noRoom i)
+      cond (fits (suc i)) (cond (eqb (length (left rule ids (suc i))) 0) (built (suc i)) next) (noRoom i)
 
-  -- The run of at most `limit` levels, 0 to limit - 1. Level 0 is built even for no ids.
+  -- The run of at most `limit` levels, from level 0, which is built even for no ids.
   abbrev pub run : ℕ → Outcome
   run limit = runFrom limit 0
 
--- ---- a reader: all it has is the size and the bits of each level
+-- ---- a reader, who has the size and the bits of each level
 
 module _ (span : ℕ → ℕ) (bits : ℕ → ℕ → Bool) where
-  -- the bits set in level i
+  -- the bits set in level i, and in all levels before it
   abbrev pub ones : ℕ → ℕ
   ones i = rank (bits i) (span i)
 
-  -- the bits set in all levels before i: the first row of level i
   abbrev pub base : ℕ → ℕ
   base i = sum ones i
 
-  -- the row of a set bit: the bits set before it, in the levels before and below position p of its own
+  -- the row of a set bit at p: the bits set before it, in all earlier levels and below p in its own
   abbrev pub rowAt : ℕ → ℕ → ℕ
   rowAt i p = base i + rank (bits i) p
 
-  -- sample j of level i: the bits set in all levels before, and in this level before word 8 j, which is below position 512 j
+  -- sample j of level i: the bits set in all earlier levels and in this level's words before word 8 j, which are the bits below 512 j
   abbrev pub sample : ℕ → ℕ → ℕ
   sample i j = base i + rank (bits i) (512 * j)
 
--- what a lookup finds: a row, with its level and its position there
+-- a row, with its level and its position there
 pub record Place : Type 0 where
   pub row : ℕ
   pub level : ℕ
   pub position : ℕ
 
 module _ (pos : ℕ → ℕ → ℕ → ℕ) (span : ℕ → ℕ) (bits : ℕ → ℕ → Bool) where
-  -- the first of n levels from i on whose bit at the position of x is set
+  -- the first of the n levels from i on whose bit at the position of x is set
   unfoldable pub first : ℕ → ℕ → ℕ → Option ℕ
   first zero i x = none
   first (suc n) i x =
       let later = first n (suc i) x in
       cond (bits i (pos i (span i) x)) (some i) later
 
-  -- the place of x in a level, if there is one
+  -- the place of x in that level, if there is one
   abbrev pub place : ℕ → Option ℕ → Option Place
   place x none = none
   place x (some i) =
       let p = pos i (span i) x in
       some (record { row = rowAt span bits i p; level = i; position = p })
 
-  -- the lookup of any number x in n levels: its place in the first level that has its bit, or none
+  -- The lookup of any number x in n levels.
   abbrev pub lookup : ℕ → ℕ → Option Place
   lookup n x = place x (first n 0 x)
 
@@ -119,22 +124,22 @@ abbrev pub rowOf : Option Place → Option ℕ
 rowOf none = none
 rowOf (some u) = some (u .row)
 
--- ---- what a reader of the levels of ids finds
+-- ---- the rows of a list of ids, by its first n levels
 
-module _ (pos : ℕ → ℕ → ℕ → ℕ) (size : ℕ → ℕ) (ids : List ℕ) where
-  -- the lookup of x in the first n levels of ids, and its row
+module _ (rule : Rule) (ids : List ℕ) where
+  -- the lookup of any number x, and its row
   abbrev pub find : ℕ → ℕ → Option Place
-  find n x = lookup pos (span pos size ids) (bit pos size ids) n x
+  find n x = lookup (rule .pos) (span rule ids) (bit rule ids) n x
 
   abbrev pub row : ℕ → ℕ → Option ℕ
   row n x = rowOf (find n x)
 
-  -- The row list of n levels, ids by level and then position: at a set bit the id that has it, in a level these by position, and the levels one after another.
+  -- The row list, ids by level and then position: at a set bit the id that has it, in a level these by position, and the levels one after another.
   abbrev pub atBit : ℕ → ℕ → List ℕ
-  atBit i p = cond (bit pos size ids i p) (sift (λ x. eqb (pos i (span pos size ids i) x) p) (left pos size ids i)) []
+  atBit i p = cond (bit rule ids i p) (sift (λ x. eqb (rule .pos i (span rule ids i) x) p) (left rule ids i)) []
 
   abbrev pub inLevel : ℕ → List ℕ
-  inLevel i = blocks (atBit i) (span pos size ids i)
+  inLevel i = blocks (atBit i) (span rule ids i)
 
   abbrev pub rowList : ℕ → List ℕ
   rowList n = blocks inLevel n
