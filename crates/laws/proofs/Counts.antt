@@ -44,7 +44,7 @@ length-total (x ∷ xs) = omega (arith, length-total xs)
 
 -- ---- double counting
 
--- Each member x of a list counts w (g x), or each point p below s counts w p for each member that g takes there: the same, but for members taken to s or beyond.
+-- Each member x of a list that g takes below s counts w (g x); or each point p below s counts w p for each member that g takes there.
 pub double : (w g : ℕ → ℕ) (s : ℕ) (xs : List ℕ) → total (λ x. w (g x) * one (ltb (g x) s)) xs ≡ sum (λ p. w p * hits g p xs) s
 double w g s [] = simp (mul-zero, sum-zero)
 double w g s (x ∷ xs) = simp (mul-add, sum-add, sum-point) (omega (arith, double w g s xs))
@@ -70,7 +70,7 @@ pub same-total : (w : ℕ → ℕ) {xs ys : List ℕ} → Same xs ys → total w
 same-total w {xs} {ys} e =
     let s = top xs + top ys in
     sym (below-top w s xs (omega arith)) ∙ double w (λ x. x) s xs
-    ∙ sum-same _ _ (λ p. ap (λ (n : ℕ). w p * n) (e .counts p)) s
+    ∙ sum-same _ _ s (λ p h. ap (λ (n : ℕ). w p * n) (e .counts p))
     ∙ sym (double w (λ x. x) s ys) ∙ below-top w s ys (omega arith)
 
 pub same-length : {xs ys : List ℕ} → Same xs ys → length xs ≡ length ys
@@ -137,26 +137,32 @@ sift-append f (x ∷ xs) ys = rw (sift-append f xs ys) (go (f x))
     go true = refl
     go false = refl
 
-pub sift-take : (f : ℕ → Bool) (xs : List ℕ) (k : ℕ) → k < length xs → sift f (take (suc k) xs) ≡ sift f (take k xs) ++ cond (f (getD xs k 0)) (getD xs k 0 ∷ []) []
+pub sift-take : (f : ℕ → Bool) (xs : List ℕ) (k : ℕ) → k < length xs
+    → sift f (take (suc k) xs) ≡ sift f (take k xs) ++ cond (f (getD xs k 0)) (getD xs k 0 ∷ []) []
 sift-take f xs k h = rw (take-suc xs k 0) (sift-append f (take k xs) (getD xs k 0 ∷ []))
 
 -- ---- members
 
 -- some member passes a test that counts any
-pub record Found (f : ℕ → Bool) (xs : List ℕ) : Type 0 where
+pub record Picked (f : ℕ → Bool) (xs : List ℕ) : Type 0 where
   pub it : ℕ
   pub passes : f it ≡ true
   pub member : 0 < count it xs
 
-pub find : (f : ℕ → Bool) (xs : List ℕ) → 0 < tally f xs → Found f xs
-find f [] h = absurd (omega arith)
-find f (x ∷ xs) h = go (f x) refl h (λ k. find f xs k)
+pub pick : (f : ℕ → Bool) (xs : List ℕ) → 0 < tally f xs → Picked f xs
+pick f [] h = absurd (omega arith)
+pick f (x ∷ xs) h = go (f x) refl h (λ k. pick f xs k)
   where
-    go : (b : Bool) → f x ≡ b → 0 < one b + tally f xs → (0 < tally f xs → Found f xs) → Found f (x ∷ xs)
+    go : (b : Bool) → f x ≡ b → 0 < one b + tally f xs → (0 < tally f xs → Picked f xs) → Picked f (x ∷ xs)
     go true e k r = record { it = x; passes = e; member = omega (arith, one-eq x x refl) }
     go false e k r =
         let t = r (omega arith) in
         record { it = t .it; passes = t .passes; member = omega (arith, t .member) }
+
+-- g takes no member to p
+pub hits-none : (g : ℕ → ℕ) (p : ℕ) → ((x : ℕ) → g x ≡ p → ⊥) → (xs : List ℕ) → hits g p xs ≡ 0
+hits-none g p n [] = refl
+hits-none g p n (x ∷ xs) = omega (arith, hits-none g p n xs, one-ne (g x) p (n x))
 
 -- where g takes x, it takes at least all the x of the list
 one-image : (g : ℕ → ℕ) (x y : ℕ) → one (eqb y x) ≤ one (eqb (g y) (g x))
@@ -192,6 +198,11 @@ count-two (x ∷ xs) j zero l h e = absurd (omega arith)
 count-two (x ∷ xs) zero (suc k) l h e = omega (arith, one-eq x (getD xs k 0) e, count-at xs k (omega arith))
 count-two (x ∷ xs) (suc j) (suc k) l h e = omega (arith, count-two xs j k (omega arith) (omega arith) e)
 
+-- a list of no members
+pub empty : (xs : List ℕ) → length xs ≡ 0 → xs ≡ []
+empty [] e = refl
+empty (x ∷ xs) e = absurd (omega arith)
+
 -- a list of one member that holds x is x alone
 pub only : (x : ℕ) (xs : List ℕ) → length xs ≡ 1 → 0 < count x xs → xs ≡ x ∷ []
 only x [] e h = absurd (omega arith)
@@ -206,5 +217,5 @@ only x (y ∷ z ∷ zs) e h = absurd (omega arith)
 -- and has no other order
 pub same-one : {xs ys : List ℕ} → Same xs ys → length xs ≡ 1 → xs ≡ ys
 same-one {xs} {ys} s e =
-    let m = find (λ x. true) xs (omega (arith, length-total xs)) in
+    let m = pick (λ x. true) xs (omega (arith, length-total xs)) in
     only (m .it) xs e (m .member) ∙ sym (only (m .it) ys (sym (same-length s) ∙ e) (omega (arith, s .counts (m .it), m .member)))

@@ -1,5 +1,5 @@
 -- The laws of sums over the numbers below a bound, and of ranks. Assumes nothing.
-use mathlib.Core.Path.{_≡_, refl, sym, ap, fun-ext}
+use mathlib.Core.Path.{_≡_, refl, sym, ap}
 use mathlib.Core.Bool.{Bool, true, false}
 use Prim.Native.Nat.{ℕ, zero, suc, _+_, _*_, _≤_, _<_}
 use native.Mathlib.Nat.{mul-zero, add-zero, add-suc}
@@ -20,8 +20,10 @@ pub sum-add : (v w : ℕ → ℕ) (n : ℕ) → sum (λ p. v p + w p) n ≡ sum 
 sum-add v w zero = refl
 sum-add v w (suc n) = omega (arith, sum-add v w n)
 
-pub sum-same : (v w : ℕ → ℕ) → ((p : ℕ) → v p ≡ w p) → (n : ℕ) → sum v n ≡ sum w n
-sum-same v w e n = ap (λ (f : ℕ → ℕ). sum f n) (fun-ext e)
+-- only the weights below the bound count
+pub sum-same : (v w : ℕ → ℕ) (n : ℕ) → ((p : ℕ) → p < n → v p ≡ w p) → sum v n ≡ sum w n
+sum-same v w zero e = refl
+sum-same v w (suc n) e = omega (arith, sum-same v w n (λ p h. e p (omega arith)), e n (omega arith))
 
 -- the more numbers, the more
 pub sum-mono : (w : ℕ → ℕ) {m n : ℕ} → m ≤ n → sum w m ≤ sum w n
@@ -80,6 +82,9 @@ part-one w i j k a b c d = go (tri i j)
     go (gt h) = absurd (omega (arith, sum-mono w {m = suc j} {n = i} h))
 
 -- ---- ranks: the numbers that pass a test, in order
+
+pub rank-same : (f g : ℕ → Bool) (n : ℕ) → ((p : ℕ) → p < n → f p ≡ g p) → rank f n ≡ rank g n
+rank-same f g n e = sum-same _ _ n (λ p h. ap one (e p h))
 
 pub rank-lt : (f : ℕ → Bool) (p n : ℕ) → f p ≡ true → p < n → rank f p < rank f n
 rank-lt f p n e h = omega (arith, sum-mono (λ q. one (f q)) {m = suc p} {n = n} h, ap one e)

@@ -1,10 +1,15 @@
 -- The rule at small sizes: one table of tests, which antt computes. Assumes nothing.
+use mathlib.Core.Path.{_≡_, refl}
 use Prim.Native.Nat.{ℕ, _+_, _/_, _%_, _^_}
 use mathlib.Core.Bool.{Bool, true, false, not, _&&_, _||_}
 use mathlib.Core.List.{List, [], _∷_}
 use mathlib.Core.Option.{Option, none, some}
-use lib.Dec.{T, eqb, ltb}
+use native.Mathlib.Nat.{mod-lt}
+use native.Mathlib.Omega.{arith}
+use lib.Dec.{T, eqb, ltb, lit<}
 use Rattle.rule.specs.Rule.{Rule, left, span, bit, Room, Outcome, built, noRoom, idsLeft, runFrom, run, rowAt, sample, Place, first, find, rowList}
+use Rattle.rule.specs.Demand.{Sound, Perfect}
+use Rattle.rule.proofs.Demand.{demand3}
 
 abbrev all : List Bool → Bool
 all [] = true
@@ -93,3 +98,14 @@ rows : T (all
     ∷ []))
 unfolding left first runFrom
 rows = tt
+
+-- the rule is sound, so demand 3 holds of its runs
+sound : Sound digits
+sound = record { within = λ i s x h. mod-lt (x / 10 ^ i) h; positive = λ n. omega arith }
+
+three-built : run digits (room 19 2) three 100 ≡ built 2
+unfolding left runFrom
+three-built = refl
+
+three-perfect : Perfect digits three 2
+three-perfect = demand3 digits (room 19 2) three sound 100 (lit< tt) .perfect 2 three-built

@@ -6,11 +6,11 @@ use Prim.Native.Nat.{ℕ, _+_, _*_, _≤_, _<_}
 use native.Mathlib.Omega.{arith}
 use lib.Dec.{eqb}
 use lib.ListN.{length}
-use borrow.Author.Tests.{eqb-true}
+use borrow.Author.Tests.{eqb-true, ne-eqb}
 use Rattle.laws.specs.Counting.{one, tally, rank, hits, count, Same}
 use Rattle.laws.proofs.Cases.{Tri, lt, eq, gt, tri}
 use Rattle.laws.proofs.Sums.{sum-same}
-use Rattle.laws.proofs.Counts.{double-all, same-total, length-sift, tally-not, count-sift, count-le-hits, two-hits}
+use Rattle.laws.proofs.Counts.{double-all, same-total, length-sift, tally-not, count-sift, hits-none, count-le-hits, two-hits}
 use Rattle.rule.specs.Rule.{single, rest}
 
 module _ (g : ℕ → ℕ) (xs : List ℕ) where
@@ -18,9 +18,13 @@ module _ (g : ℕ → ℕ) (xs : List ℕ) where
   pub set-one : (p : ℕ) → single g xs p ≡ true → hits g p xs ≡ 1
   set-one p e = eqb-true (hits g p xs) 1 e
 
-  -- so the set bits below s are as many as the ids that have one
+  -- no bit is set past the positions
+  pub unset-past : (s : ℕ) → ((x : ℕ) → g x < s) → (p : ℕ) → s ≤ p → single g xs p ≡ false
+  unset-past s h p l = ne-eqb (hits g p xs) 1 (λ e. omega (arith, hits-none g p (λ x q. omega (arith, h x)) xs))
+
+  -- the set bits below s are as many as the ids that have one
   set-bits : (s : ℕ) → ((x : ℕ) → g x < s) → rank (single g xs) s ≡ tally (λ x. single g xs (g x)) xs
-  set-bits s h = sum-same _ _ each s ∙ sym (double-all (λ p. one (single g xs p)) g s h xs)
+  set-bits s h = sum-same _ _ s (λ p l. each p) ∙ sym (double-all (λ p. one (single g xs p)) g s h xs)
     where
       each : (p : ℕ) → one (single g xs p) ≡ one (single g xs p) * hits g p xs
       each p = go (single g xs p) refl

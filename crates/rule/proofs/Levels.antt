@@ -69,7 +69,7 @@ module _ (rule : Rule) (ids : List ℕ) where
     unfolding left
     levels = record {
       balance = λ i. level-balance (spot i) (left rule ids i) (span rule ids i) (spot-lt i);
-      no-rise = λ mono i j h. mono (length (left rule ids j)) (length (left rule ids i)) (left-fewer i j h);
+      no-rise = λ mono i j h. mono (length (left rule ids j)) (length (left rule ids i)) (left-fewer i j h) (left-fewer 0 i (omega arith));
     }
 
     -- every id has a set bit of its own below level i, or is left there

@@ -6,6 +6,7 @@ use Prim.Native.Nat.{ℕ, zero, suc}
 use lib.Dec.{eqb, leb}
 use Rattle.laws.specs.Counting.{sift, blocks, Same}
 use Rattle.laws.proofs.Counts.{same-length, same-sift, same-one, length-sift, perm-same}
+use Rattle.laws.proofs.Blocks.{blocks-same}
 use Rattle.rule.specs.Rule.{Rule, single, rest, left, span, bit, start, Room, idsLeft, fits, runFrom, lookup, atBit, inLevel}
 use Rattle.rule.specs.Demand.{SameIndex}
 use Rattle.rule.proofs.Level.{set-one, same-single, same-rest}
@@ -59,7 +60,7 @@ module _ (rule : Rule) {xs ys : List ℕ} (s : Same xs ys) where
     bits = same-bit;
     runs = λ room. fun-ext (λ limit. same-run room limit 0);
     finds = ap₂ (λ (w : ℕ → ℕ) (b : ℕ → ℕ → Bool). lookup (rule .pos) w b) same-span same-bit;
-    lists = fun-ext (λ n. ap (λ (f : ℕ → List ℕ). blocks f n) (fun-ext same-in));
+    lists = fun-ext (λ n. blocks-same _ _ n (λ i h. same-in i));
   }
 
 -- a rearrangement, as mathlib has it, has the same members

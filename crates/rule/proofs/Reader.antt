@@ -1,5 +1,5 @@
 -- What a reader of any sizes and bits finds: the laws of lookup, and a row by its sample. Assumes nothing.
-use mathlib.Core.Path.{_≡_, refl, ap, subst}
+use mathlib.Core.Path.{_≡_, refl, ap, ap₂, _∙_, subst}
 use mathlib.Core.Bool.{Bool, true, false, cond}
 use mathlib.Core.Option.{Option, none, some}
 use Prim.Native.Nat.{ℕ, zero, suc, _+_, _*_, _/_, _%_, _≤_, _<_}
@@ -7,7 +7,7 @@ use native.Mathlib.Nat.{div-add-mod}
 use native.Mathlib.Omega.{arith}
 use Rattle.laws.specs.Counting.{one, rank}
 use Rattle.laws.proofs.Cases.{Tri, lt, eq, gt, tri}
-use Rattle.laws.proofs.Sums.{sum-mono, sum-split, rank-lt}
+use Rattle.laws.proofs.Sums.{sum-same, sum-mono, sum-split, rank-same, rank-lt}
 use Rattle.rule.specs.Rule.{ones, base, rowAt, sample, Place, first, place, lookup, rowOf}
 
 -- a row is the sample at position / 512 and the ones from there on
@@ -69,12 +69,52 @@ module _ (pos : ℕ → ℕ → ℕ → ℕ) (span : ℕ → ℕ) (bits : ℕ �
           subst (Finds n x) z (record { level-lt = omega (arith, h .1); position-is = refl; is-set = h .0; row-is = refl })
 
   -- no row lies beyond the set bits, whatever is looked for
-  pub lookup-lt : ((i x : ℕ) → pos i (span i) x < span i) → (n x : ℕ) {u : Place} → lookup pos span bits n x ≡ some u → u .row < base span bits n
-  lookup-lt within n x {u} e =
+  pub lookup-lt : (n : ℕ) → ((i x : ℕ) → i < n → pos i (span i) x < span i) → (x : ℕ) {u : Place} → lookup pos span bits n x ≡ some u
+      → u .row < base span bits n
+  lookup-lt n within x {u} e =
       let f = lookup-finds n x e in
+      let p : u .position < span (u .level) = rw (f .position-is) (within (u .level) x (f .level-lt)) in
       omega (
         arith,
         f .row-is,
-        rank-lt (bits (u .level)) (u .position) (span (u .level)) (f .is-set) (rw (f .position-is) (within (u .level) x)),
+        rank-lt (bits (u .level)) (u .position) (span (u .level)) (f .is-set) p,
         sum-mono (ones span bits) {m = suc (u .level)} {n = n} (f .level-lt),
       )
+
+-- ---- two readers who have the same n levels: the same sizes, and the same bits below them
+
+pub record SameLevels (s t : ℕ → ℕ) (b c : ℕ → ℕ → Bool) (n : ℕ) : Type 0 where
+  pub sizes : (i : ℕ) → i < n → s i ≡ t i
+  pub bits : (i p : ℕ) → i < n → p < s i → b i p ≡ c i p
+
+module _ (s t : ℕ → ℕ) (b c : ℕ → ℕ → Bool) (n : ℕ) (same : SameLevels s t b c n) where
+  -- have the same bases, rows and samples
+  pub base-agrees : (i : ℕ) → i ≤ n → base s b i ≡ base t c i
+  base-agrees i h = sum-same _ _ i each
+    where
+      each : (j : ℕ) → j < i → ones s b j ≡ ones t c j
+      each j l = rank-same (b j) (c j) (s j) (λ p q. same .bits j p (omega arith) q) ∙ ap (rank (c j)) (same .sizes j (omega arith))
+
+  pub row-agrees : (i p : ℕ) → i < n → p ≤ s i → rowAt s b i p ≡ rowAt t c i p
+  row-agrees i p h l = omega (arith, base-agrees i (omega arith), rank-same (b i) (c i) p (λ q m. same .bits i q h (omega arith)))
+
+  -- and the same lookups, where positions lie below the sizes
+  module _ (pos : ℕ → ℕ → ℕ → ℕ) (within : (i x : ℕ) → i < n → pos i (s i) x < s i) where
+    first-agrees : (m i x : ℕ) → i + m ≤ n → first pos s b m i x ≡ first pos t c m i x
+    unfolding first
+    first-agrees zero i x h = refl
+    first-agrees (suc m) i x h =
+        let e : b i (pos i (s i) x) ≡ c i (pos i (t i) x)
+        = same .bits i (pos i (s i) x) (omega arith) (within i x (omega arith)) ∙ ap (λ (k : ℕ). c i (pos i k x)) (same .sizes i (omega arith)) in
+        rw (e, first-agrees m (suc i) x (omega arith))
+
+    pub lookup-agrees : (x : ℕ) → lookup pos s b n x ≡ lookup pos t c n x
+    lookup-agrees x = go (first pos s b n 0 x) refl ∙ ap (place pos t c x) (first-agrees n 0 x (omega arith))
+      where
+        go : (o : Option ℕ) → first pos s b n 0 x ≡ o → place pos s b x o ≡ place pos t c x o
+        go none e = refl
+        go (some j) e =
+            let h : j < n = omega (arith, first-has pos s b n 0 j x e .1) in
+            let p : pos j (s j) x ≡ pos j (t j) x = ap (λ (k : ℕ). pos j k x) (same .sizes j h) in
+            ap₂ (λ (k q : ℕ). some (record { row = k; level = j; position = q }))
+            (row-agrees j (pos j (s j) x) h (omega (arith, within j x h)) ∙ ap (rowAt t c j) p) p

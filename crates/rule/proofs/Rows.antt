@@ -13,7 +13,7 @@ use borrow.Author.Tests.{eqb-true}
 use Rattle.laws.specs.Counting.{one, sum, rank, count, sift, Same}
 use Rattle.laws.proofs.Cases.{Tri, lt, eq, gt, tri, one-eq, one-lt}
 use Rattle.laws.proofs.Sums.{sum-same, sum-mono, sum-point, part, part-one, rank-lt, rank-inj, select}
-use Rattle.laws.proofs.Counts.{total-append, same-length, length-sift, count-sift, find as member, count-two, only}
+use Rattle.laws.proofs.Counts.{total-append, same-length, length-sift, count-sift, pick, count-two, only}
 use Rattle.laws.proofs.Blocks.{total-blocks, length-blocks, blocks-at}
 use Rattle.rule.specs.Rule.{Rule, left, span, bit, ones, base, rowAt, Place, first, place, find, row, atBit, inLevel, rowList}
 use Rattle.rule.specs.Demand.{Sound, Before, by-level, by-position, Perfect}
@@ -117,7 +117,7 @@ module _ (rule : Rule) (ids : List ℕ) where
         let u = part Ones n k h in
         let v = select (Bits (u .at)) (Span (u .at)) (k - sum Ones (u .at)) (omega (arith, u .from, u .to)) in
         let e = set-one (Spot (u .at)) (Left (u .at)) (v .at) (v .passes) in
-        let w = member (λ x. eqb (Spot (u .at) x) (v .at)) (Left (u .at)) (omega arith) in
+        let w = pick (λ x. eqb (Spot (u .at) x) (v .at)) (Left (u .at)) (omega arith) in
         let q : Spot (u .at) (w .it) ≡ v .at = eqb-true (Spot (u .at) (w .it)) (v .at) (w .passes) in
         record {
           id = w .it;
@@ -139,12 +139,13 @@ module _ (rule : Rule) (ids : List ℕ) where
 
     at-sits : {x j : ℕ} → Sits x j → getD (atBit rule ids j (Spot j x)) 0 0 ≡ x
     at-sits {x} {j} t =
-        ap (λ (l : List ℕ). getD l 0 0) (only x (atBit rule ids j (Spot j x)) (at-length j (Spot j x) ∙ ap one (t .has))
-        (rw (t .has, count-sift (λ y. eqb (Spot j y) (Spot j x)) x (Left j), one-eq (Spot j x) (Spot j x) refl) (omega (arith, t .comes))))
+        let h : 0 < count x (atBit rule ids j (Spot j x))
+        = rw (t .has, count-sift (λ y. eqb (Spot j y) (Spot j x)) x (Left j), one-eq (Spot j x) (Spot j x) refl) (omega (arith, t .comes)) in
+        ap (λ (l : List ℕ). getD l 0 0) (only x (atBit rule ids j (Spot j x)) (at-length j (Spot j x) ∙ ap one (t .has)) h)
 
     -- a level lists its set bits
     in-length : (i : ℕ) → length (inLevel rule ids i) ≡ Ones i
-    in-length i = length-blocks (atBit rule ids i) (Span i) ∙ sum-same _ _ (at-length i) (Span i)
+    in-length i = length-blocks (atBit rule ids i) (Span i) ∙ sum-same _ _ (Span i) (λ p h. at-length i p)
 
     in-sits : {x j : ℕ} → Sits x j → getD (inLevel rule ids j) (rank (Bits j) (Spot j x)) 0 ≡ x
     in-sits {x} {j} t =
@@ -155,7 +156,7 @@ module _ (rule : Rule) (ids : List ℕ) where
     in-count : (x i : ℕ) → count x (inLevel rule ids i) ≡ one (marked rule ids i x) * count x (Left i)
     in-count x i =
         total-blocks (λ y. one (eqb y x)) (atBit rule ids i) (Span i)
-        ∙ sum-same _ _ each (Span i)
+        ∙ sum-same _ _ (Span i) (λ p h. each p)
         ∙ sum-point (λ p. one (Bits i p) * count x (Left i)) (Spot i x) (Span i)
         ∙ rw (one-lt (Spot i x) (Span i) (below i x)) (mul-one (one (marked rule ids i x) * count x (Left i)))
       where
@@ -216,7 +217,8 @@ module _ (rule : Rule) (ids : List ℕ) where
       unfolding left
       row-taken k h =
           let u = taken n k (omega (arith, all-set)) in
-          (u .id, omega (arith, u .sits .comes, fewer-le rule ids (u .id) {i = 0} {j = u .level} zero-le), sits-row n (u .level-lt) (u .sits) ∙ ap some (u .here))
+          let m = fewer-le rule ids (u .id) {i = 0} {j = u .level} zero-le in
+          (u .id, omega (arith, u .sits .comes, m), sits-row n (u .level-lt) (u .sits) ∙ ap some (u .here))
 
       list-same : Same (rowList rule ids n) ids
       list-same = record { counts = λ x. omega (arith, list-count x n, gone x) }
@@ -246,7 +248,7 @@ module _ (rule : Rule) (ids : List ℕ) where
         has-row = λ x m. let u = seated x m in (Here (u .0) x, sits-row n (u .1) (u .2));
         row-lt = λ x k e.
             let f = row-found (find rule ids n x) k e in
-            omega (arith, lookup-lt (rule .pos) Span Bits below n x (f .1), f .2, all-set);
+            omega (arith, lookup-lt (rule .pos) Span Bits n (λ i y h. below i y) x (f .1), f .2, all-set);
         row-taken = row-taken;
         one-row = λ x y k a b p q.
             let u = in-row x k a p in

@@ -1,7 +1,7 @@
 -- How a run ends: always in one of three ways, and no other outcome fits them. Assumes nothing.
 use mathlib.Core.Path.{_≡_, refl, sym, ap, _∙_}
 use mathlib.Core.Bool.{Bool, true, false, cond, _&&_}
-use mathlib.Core.List.{List, [], _∷_}
+use mathlib.Core.List.{List, []}
 use Prim.Native.Nat.{ℕ, zero, suc, _+_, _-_, _≤_, _<_, zero-le}
 use native.Mathlib.Omega.{arith}
 use lib.Dec.{eqb, leb}
@@ -9,12 +9,10 @@ use lib.ListN.{length}
 use borrow.Author.Tests.{eqb-true, eqb-false, ne-eqb, leb-true, le-leb, lt-leb}
 use Rattle.laws.proofs.Cases.{Tri, lt, eq, gt, tri}
 use Rattle.laws.proofs.Sums.{sum-mono}
+use Rattle.laws.proofs.Counts.{empty}
 use Rattle.rule.specs.Rule.{Rule, left, span, start, Room, Outcome, built, noRoom, idsLeft, fits, runFrom, run}
-use Rattle.rule.specs.Demand.{Reaches, Ends, none-left, out-of-room, at-limit}
-
-pub empty : (xs : List ℕ) → length xs ≡ 0 → xs ≡ []
-empty [] e = refl
-empty (x ∷ xs) e = absurd (omega arith)
+use Rattle.rule.specs.Demand.{Reaches, Enough, Ends, none-left, out-of-room, at-limit}
+use Rattle.rule.proofs.Levels.{left-fewer}
 
 module _ (rule : Rule) (room : Room) (ids : List ℕ) where
   abbrev words-to : ℕ → ℕ
@@ -61,15 +59,15 @@ module _ (rule : Rule) (room : Room) (ids : List ℕ) where
   -- ---- one turn
 
   module _ (n i : ℕ) where
-    pub turn-full : fits rule room ids (suc i) ≡ false → runFrom rule room ids (suc n) i ≡ noRoom i
+    turn-full : fits rule room ids (suc i) ≡ false → runFrom rule room ids (suc n) i ≡ noRoom i
     unfolding runFrom
     turn-full f = rw f
 
-    pub turn-last : fits rule room ids (suc i) ≡ true → left rule ids (suc i) ≡ [] → runFrom rule room ids (suc n) i ≡ built (suc i)
+    turn-last : fits rule room ids (suc i) ≡ true → left rule ids (suc i) ≡ [] → runFrom rule room ids (suc n) i ≡ built (suc i)
     unfolding runFrom
     turn-last f e = rw (f, e)
 
-    pub turn-next : fits rule room ids (suc i) ≡ true → 0 < length (left rule ids (suc i))
+    turn-next : fits rule room ids (suc i) ≡ true → 0 < length (left rule ids (suc i))
         → runFrom rule room ids (suc n) i ≡ runFrom rule room ids n (suc i)
     unfolding runFrom
     turn-next f h = rw (f, ne-eqb (length (left rule ids (suc i))) 0 (omega arith))
@@ -91,8 +89,19 @@ module _ (rule : Rule) (room : Room) (ids : List ℕ) where
   reaches-before : (i : ℕ) → Reaches rule room ids (suc i) → Reaches rule room ids i
   reaches-before i r = record { room-for = room-fewer i (suc i) (omega arith) (r .room-for); more-after = λ j h. r .more-after j (omega arith) }
 
+  -- with room enough it comes to every level that ids come to
+  pub reaches-all : (limit : ℕ) → Enough rule room ids limit → 0 < length (left rule ids limit) → (i : ℕ) → i ≤ limit → Reaches rule room ids i
+  reaches-all limit enough h zero l = reaches-0
+  reaches-all limit enough h (suc i) l =
+      let r = reaches-all limit enough h i (omega arith) in
+      reaches-next i r (enough i l r) (omega (arith, left-fewer rule ids (suc i) limit l))
+
+  -- room for every level is enough
+  pub all-enough : (limit : ℕ) → fits rule room ids limit ≡ true → Enough rule room ids limit
+  all-enough limit f i h r = room-fewer (suc i) limit h f
+
   -- what a run comes to decides its outcome
-  pub run-there : (i n limit : ℕ) → i + n ≡ limit → Reaches rule room ids i → run rule room ids limit ≡ runFrom rule room ids n i
+  run-there : (i n limit : ℕ) → i + n ≡ limit → Reaches rule room ids i → run rule room ids limit ≡ runFrom rule room ids n i
   run-there zero n limit e r = ap (λ (m : ℕ). runFrom rule room ids m 0) (omega arith)
   run-there (suc i) n limit e r =
       run-there i (suc n) limit (omega arith) (reaches-before i r) ∙ turn-next n i (r .room-for) (r .more-after i (omega arith))

@@ -1,4 +1,5 @@
--- What the level rule promises, a record for each promise: the balance of a level, how a run ends, demand 3, and that the order of the ids does not matter.
+-- What the level rule promises: the balance of a level, how a run ends, demand 3, and that the order of the ids does not matter.
+-- In proofs/, `levels` shows the first, `run-ends` and `ends-only` the second, `demand3` the third, and `same-index` the last; all for any sound rule.
 -- An id is a number that stands in ids: `0 < count x ids`.
 use mathlib.Core.Path.{_≡_}
 use mathlib.Core.Logic.{_↔_}
@@ -18,33 +19,33 @@ pub record Sound (rule : Rule) : Type 0 where
 -- Each level: the bits it sets and the ids that go on are the ids that came in. Sizes never rise, where the size rule gives fewer ids no more bits.
 pub record Levels (rule : Rule) (ids : List ℕ) : Type 0 where
   pub balance : (i : ℕ) → ones (span rule ids) (bit rule ids) i + length (left rule ids (suc i)) ≡ length (left rule ids i)
-  pub no-rise : ((m n : ℕ) → m ≤ n → rule .size m ≤ rule .size n) → (i j : ℕ) → i ≤ j → span rule ids j ≤ span rule ids i
+  pub no-rise : ((m n : ℕ) → m ≤ n → n ≤ length ids → rule .size m ≤ rule .size n) → (i j : ℕ) → i ≤ j → span rule ids j ≤ span rule ids i
 
 -- a place lies before another: in an earlier level, or in the same level at a lower position
 pub data Before (u v : Place) : Type 0 where
   by-level : u .level < v .level → Before u v
   by-position : u .level ≡ v .level → u .position < v .position → Before u v
 
--- The first n levels are a minimal perfect hash of the ids.
-pub record Perfect (rule : Rule) (ids : List ℕ) (n : ℕ) : Type 0 where
+-- The first L levels are a minimal perfect hash of the ids.
+pub record Perfect (rule : Rule) (ids : List ℕ) (L : ℕ) : Type 0 where
   -- the ids are pairwise distinct, and each has a bit
   pub distinct : (i j : ℕ) → i < j → j < length ids → getD ids i 0 ≡ getD ids j 0 → ⊥
-  pub all-set : base (span rule ids) (bit rule ids) n ≡ length ids
+  pub all-set : base (span rule ids) (bit rule ids) L ≡ length ids
   -- each id has a row; any number at all has no row, or one below the number of ids
-  pub has-row : (x : ℕ) → 0 < count x ids → (k : ℕ) × (row rule ids n x ≡ some k)
-  pub row-lt : (x k : ℕ) → row rule ids n x ≡ some k → k < length ids
+  pub has-row : (x : ℕ) → 0 < count x ids → (k : ℕ) × (row rule ids L x ≡ some k)
+  pub row-lt : (x k : ℕ) → row rule ids L x ≡ some k → k < length ids
   -- each row below the number of ids is the row of an id, and of no other id
-  pub row-taken : (k : ℕ) → k < length ids → (x : ℕ) × (0 < count x ids) × (row rule ids n x ≡ some k)
-  pub one-row : (x y k : ℕ) → 0 < count x ids → 0 < count y ids → row rule ids n x ≡ some k → row rule ids n y ≡ some k → x ≡ y
+  pub row-taken : (k : ℕ) → k < length ids → (x : ℕ) × (0 < count x ids) × (row rule ids L x ≡ some k)
+  pub one-row : (x y k : ℕ) → 0 < count x ids → 0 < count y ids → row rule ids L x ≡ some k → row rule ids L y ≡ some k → x ≡ y
   -- the row list holds every id exactly once, each at its row, by rising level and then position
-  pub listed : (x : ℕ) → 0 < count x ids → count x (rowList rule ids n) ≡ 1
-  pub list-same : Same (rowList rule ids n) ids
-  pub list-row : (k : ℕ) → k < length ids → row rule ids n (getD (rowList rule ids n) k 0) ≡ some k
-  pub rising : (k l : ℕ) (u v : Place) → k < l → l < length ids → find rule ids n (getD (rowList rule ids n) k 0) ≡ some u
-      → find rule ids n (getD (rowList rule ids n) l 0) ≡ some v → Before u v
+  pub listed : (x : ℕ) → 0 < count x ids → count x (rowList rule ids L) ≡ 1
+  pub list-same : Same (rowList rule ids L) ids
+  pub list-row : (k : ℕ) → k < length ids → row rule ids L (getD (rowList rule ids L) k 0) ≡ some k
+  pub rising : (k l : ℕ) (u v : Place) → k < l → l < length ids → find rule ids L (getD (rowList rule ids L) k 0) ≡ some u
+      → find rule ids L (getD (rowList rule ids L) l 0) ≡ some v → Before u v
   -- and it is the only list that has each id at its row
-  pub list-only : (t : List ℕ) → length t ≡ length ids → ((x k : ℕ) → 0 < count x ids → row rule ids n x ≡ some k → getD t k 0 ≡ x)
-      → t ≡ rowList rule ids n
+  pub list-only : (t : List ℕ) → length t ≡ length ids → ((x k : ℕ) → 0 < count x ids → row rule ids L x ≡ some k → getD t k 0 ≡ x)
+      → t ≡ rowList rule ids L
 
 module _ (rule : Rule) (room : Room) (ids : List ℕ) where
   -- a run comes to level i: there is room for the levels before, and ids were left after each of them
@@ -59,16 +60,19 @@ module _ (rule : Rule) (room : Room) (ids : List ℕ) where
     out-of-room : (i : ℕ) → i < limit → Reaches i → fits rule room ids (suc i) ≡ false → end ≡ noRoom i → Ends limit end
     at-limit : Reaches limit → end ≡ idsLeft (length (left rule ids limit)) → Ends limit end
 
+  -- the stores have room enough: for each level below the limit that the run comes to
+  abbrev pub Enough : ℕ → Type 0
+  Enough limit = (i : ℕ) → i < limit → Reaches i → fits rule room ids (suc i) ≡ true
+
   -- Demand 3, of a run to a limit that is not 0.
   pub record Demand3 (limit : ℕ) : Type 0 where
-    -- with room for all levels below the limit: refused exactly if ids are left after the last of them, else built
-    pub refused : fits rule room ids limit ≡ true → (n : ℕ)
-        → (run rule room ids limit ≡ idsLeft n) ↔ ((0 < n) × (length (left rule ids limit) ≡ n))
-    pub accepted : fits rule room ids limit ≡ true → ((n : ℕ) × (run rule room ids limit ≡ built n)) ↔ (left rule ids limit ≡ [])
+    -- with room enough: refused exactly if ids are left after the last level below the limit, with their number, and else built
+    pub refused : Enough limit → (n : ℕ) → (run rule room ids limit ≡ idsLeft n) ↔ ((0 < n) × (length (left rule ids limit) ≡ n))
+    pub accepted : Enough limit → ((L : ℕ) × (run rule room ids limit ≡ built L)) ↔ (left rule ids limit ≡ [])
     -- with any room: what is built is a minimal perfect hash of the ids
-    pub perfect : (n : ℕ) → run rule room ids limit ≡ built n → Perfect rule ids n
+    pub perfect : (L : ℕ) → run rule room ids limit ≡ built L → Perfect rule ids L
     -- an id given twice is never accepted, and stays to the end
-    pub twice-never : (x : ℕ) → 2 ≤ count x ids → (n : ℕ) → run rule room ids limit ≡ built n → ⊥
+    pub twice-never : (x : ℕ) → 2 ≤ count x ids → (L : ℕ) → run rule room ids limit ≡ built L → ⊥
     pub twice-left : (x : ℕ) → 2 ≤ count x ids → (n : ℕ) → run rule room ids limit ≡ idsLeft n → 2 ≤ n
 
 -- Two lists of ids give one index: sizes, bits, the run's outcome in any room and to any limit, lookups and row lists are the same.

@@ -1,5 +1,5 @@
 -- The level rule of 01: which bits a level has, who goes on, how a run of levels ends, the row of an id, and the row list.
--- It stands over any rule of positions and sizes. No word, no float and no mixer is named here.
+-- It stands over any rule of positions and sizes: no hash, no float and no number of levels is fixed here.
 use mathlib.Core.Bool.{Bool, not, cond, _&&_}
 use mathlib.Core.List.{List, []}
 use mathlib.Core.Option.{Option, none, some}
