@@ -256,6 +256,7 @@ module _ (rule : Rule) (ids : List ℕ) where
             sits-one (u .2) (v .2) (cc);
         listed = λ x m. omega (arith, list-same .counts x, once x);
         list-same = list-same;
+        list-at = list-at;
         list-row = list-row;
         rising = λ k l u v h m p q.
             let a = taken n k (omega (arith, all-set)) in

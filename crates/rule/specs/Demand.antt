@@ -1,5 +1,5 @@
 -- What the level rule promises: the balance of a level, how a run ends, demand 3, and that the order of the ids does not matter.
--- In proofs/, `levels` shows the first, `run-ends` and `ends-only` the second, `demand3` the third, and `same-index` the last; all for any sound rule.
+-- In proofs/, `levels` shows the first and `demand3` the third, for any sound rule; `run-ends` and `ends-only` show the second and `same-index` the last, for any.
 -- An id is a number that stands in ids: `0 < count x ids`.
 use mathlib.Core.Path.{_≡_}
 use mathlib.Core.Logic.{_↔_}
@@ -40,6 +40,7 @@ pub record Perfect (rule : Rule) (ids : List ℕ) (L : ℕ) : Type 0 where
   -- the row list holds every id exactly once, each at its row, by rising level and then position
   pub listed : (x : ℕ) → 0 < count x ids → count x (rowList rule ids L) ≡ 1
   pub list-same : Same (rowList rule ids L) ids
+  pub list-at : (x k : ℕ) → 0 < count x ids → row rule ids L x ≡ some k → getD (rowList rule ids L) k 0 ≡ x
   pub list-row : (k : ℕ) → k < length ids → row rule ids L (getD (rowList rule ids L) k 0) ≡ some k
   pub rising : (k l : ℕ) (u v : Place) → k < l → l < length ids → find rule ids L (getD (rowList rule ids L) k 0) ≡ some u
       → find rule ids L (getD (rowList rule ids L) l 0) ≡ some v → Before u v
