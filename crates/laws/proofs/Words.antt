@@ -16,7 +16,8 @@ use lib.Pow.{shr-lt}
 use lib.Seq.{getD-set-same, getD-set-other, set-out, drop-set-lt, ext-getD, length-take-le, take-length, getD-take}
 use Rattle.laws.specs.Counting.{one, sum, rank}
 use Rattle.laws.specs.Bits.{digit, bitAt, has, Words, withBit, withoutBit, number, packed}
-use Rattle.laws.proofs.Sums.{tri, Tri, lt, eq, gt, length-blocks, blocks-at}
+use Rattle.laws.proofs.Cases.{tri, Tri, lt, eq, gt}
+use Rattle.laws.proofs.Blocks.{length-blocks, blocks-at}
 use Rattle.laws.proofs.Ranks.{sum-ones, sum-range, sum-below}
 use Rattle.laws.proofs.Digits.{digit-ext, number-lt, number-digit, up-same, up-other, up-fits, down-same, down-other, ones-low, digit-shr}
 

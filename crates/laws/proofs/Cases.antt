@@ -1,0 +1,33 @@
+-- Two numbers are less, equal or greater; and what a test of them is worth as a number, from the fact. Assumes nothing.
+use mathlib.Core.Path.{_≡_, refl, ap}
+use mathlib.Core.Bool.{Bool, true, false}
+use Prim.Native.Nat.{ℕ, _≤_, _<_}
+use native.Mathlib.Omega.{arith}
+use lib.Dec.{eqb, ltb}
+use borrow.Author.Tests.{eqb-true, eqb-false, ltb-true, ltb-false, eq-eqb, ne-eqb, lt-ltb, le-ltb}
+use Rattle.laws.specs.Counting.{one}
+
+pub data Tri (a b : ℕ) : Type 0 where
+  lt : a < b → Tri a b
+  eq : a ≡ b → Tri a b
+  gt : b < a → Tri a b
+
+pub tri : (a b : ℕ) → Tri a b
+tri a b = go (eqb a b) refl (ltb a b) refl
+  where
+    go : (e : Bool) → eqb a b ≡ e → (l : Bool) → ltb a b ≡ l → Tri a b
+    go true e l h = eq (eqb-true a b e)
+    go false e true h = lt (ltb-true a b h)
+    go false e false h = gt (omega (arith, ltb-false a b h, eqb-false a b e))
+
+pub one-eq : (a b : ℕ) → a ≡ b → one (eqb a b) ≡ 1
+one-eq a b e = ap one (eq-eqb a b e)
+
+pub one-ne : (a b : ℕ) → (a ≡ b → ⊥) → one (eqb a b) ≡ 0
+one-ne a b n = ap one (ne-eqb a b n)
+
+pub one-lt : (a b : ℕ) → a < b → one (ltb a b) ≡ 1
+one-lt a b h = ap one (lt-ltb a b h)
+
+pub one-ge : (a b : ℕ) → b ≤ a → one (ltb a b) ≡ 0
+one-ge a b h = ap one (le-ltb a b h)

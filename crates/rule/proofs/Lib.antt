@@ -1,0 +1,8 @@
+pub mod Level
+pub mod Levels
+pub mod Run
+pub mod Reader
+pub mod Rows
+pub mod Order
+pub mod Demand
+pub mod Examples
