@@ -1,6 +1,6 @@
 -- Two numbers are less, equal or greater; and what a test of them is worth as a number, from the fact. Assumes nothing.
 use mathlib.Core.Path.{_≡_, refl, ap}
-use mathlib.Core.Bool.{Bool, true, false}
+use mathlib.Core.Bool.{Bool, true, false, _&&_, false≢true}
 use Prim.Native.Nat.{ℕ, _≤_, _<_}
 use native.Mathlib.Omega.{arith}
 use lib.Dec.{eqb, ltb}
@@ -31,3 +31,8 @@ one-lt a b h = ap one (lt-ltb a b h)
 
 pub one-ge : (a b : ℕ) → b ≤ a → one (ltb a b) ≡ 0
 one-ge a b h = ap one (le-ltb a b h)
+
+-- both parts of a test that holds
+pub both : (s t : Bool) → s && t ≡ true → (s ≡ true) × (t ≡ true)
+both true t e = (refl, e)
+both false t e = (e, absurd (false≢true e))
