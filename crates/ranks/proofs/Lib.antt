@@ -1,0 +1,4 @@
+pub mod Ones
+pub mod Samples
+pub mod ByRule
+pub mod Rows
