@@ -1,3 +1,4 @@
+pub mod Parts
 pub mod Ones
 pub mod Samples
 pub mod ByRule

@@ -14,7 +14,7 @@ use Rattle.laws.proofs.Digits.{ones-shl}
 use Rattle.laws.proofs.Words.{rank-word, rank-words}
 use Rattle.ranks.specs.Ranks.{setBits, onesFrom}
 
--- the set bits of words are the ones of each word
+-- the set bits of words are the ones of each word, summed
 pub set-bits-words : (ws : List ℕ) → Words ws → setBits ws ≡ sum (λ i. ones (getD ws i 0)) (length ws)
 unfolding setBits
 set-bits-words ws f = rank-words ws f (length ws)
@@ -38,7 +38,8 @@ module _ (ws : List ℕ) (p : ℕ) where
   counted-from s n h e = omega (arith, ap (rank (has ws)) h, rank-from)
 
   -- A count that has come to the position's word, i, comes to the position by the ones below it there: a shift to the top of the word keeps just these.
-  pub counted-own : (i m n : ℕ) → i ≡ p / 64 → m + n ≡ rank (has ws) (64 * i) → m + (n + ones (getD ws (p / 64) 0 * 2 ^ (64 - p % 64) % 2 ^ 64)) ≡ rank (has ws) p
+  pub counted-own : (i m n : ℕ) → i ≡ p / 64 → m + n ≡ rank (has ws) (64 * i)
+      → m + (n + ones (getD ws (p / 64) 0 * 2 ^ (64 - p % 64) % 2 ^ 64)) ≡ rank (has ws) p
   counted-own i m n h e =
       let l : p % 64 ≤ 64 = omega arith in
       omega (

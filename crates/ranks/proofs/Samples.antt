@@ -24,6 +24,7 @@ module _ (before : ℕ) (ws : List ℕ) where
   pub length-samples : length (samplesOf before ws) ≡ samplesFor (length ws)
   length-samples = length-first (samplesFor (length ws))
 
+  -- sample j
   pub sample-at : (n j : ℕ) → j < n → getD (firstSamples before ws n) j 0 ≡ before + rank (has ws) (512 * j)
   unfolding firstSamples
   sample-at n j l =

@@ -8,7 +8,7 @@ ghost use Rattle.ranks.specs.Ranks.{onesFrom, Sampled};
 // There is a sample for every so many words.
 const STRIDE: usize = 8;
 
-// The n words or samples from a place on: a level's part of the store in which the levels lie one after another.
+// The n words or samples from a place on: a level's part of a store in which the levels lie one after another.
 pub fn part(store: &[u64], at: usize, n: usize) -> &[u64]
     requires { ⌜ at + n ≤ length (now store) ⌝ }
     ensures { λ r. ⌜ now r ≡ take n (drop at (now (store .entry))) ⌝ }
@@ -17,7 +17,7 @@ pub fn part(store: &[u64], at: usize, n: usize) -> &[u64]
     &store[at..end]
 }
 
-// Writes the samples of the level that has these words, from the set bits before it, to the front of the store; the set bits up to and with this level.
+// Writes a level's samples to the front of the store, from its words and the number of set bits before it; the set bits up to and with this level.
 pub fn sample_level(words: &[u64], before: u64, samples: &mut [u64]) -> u64
     requires { ⌜ samplesFor (length (now words)) ≤ length (now samples) ⌝ ∗ ⌜ before + 64 * length (now words) < 2 ^ 64 ⌝ }
     ensures { λ r. ⌜ Sampled before (now (words .entry)) (now (samples .entry)) r (now (samples .exit)) ⌝ }
@@ -32,7 +32,7 @@ pub fn sample_level(words: &[u64], before: u64, samples: &mut [u64]) -> u64
     ones
 }
 
-// The ones of a level below a position, from its sample's word on. The position may also be the end of the words.
+// The ones below a position, from the first word of its sample on. The position may also be the end of the words.
 pub fn ones_from(words: &[u64], position: u64) -> u64
     requires { ⌜ position ≤ 64 * length (now words) ⌝ }
     ensures { λ r. ⌜ r ≡ onesFrom (now (words .entry)) position ⌝ }
