@@ -1,3 +1,4 @@
 pub mod Soundness
 pub mod Stores
 pub mod Sizes
+pub mod Fills

@@ -7,7 +7,7 @@ ghost use Rattle.bounds.specs.Bounds.{maxBits};
 ghost use Rattle.laws.specs.Counting.{one};
 ghost use Rattle.laws.specs.Bits.{wordsFor, has, withBit, withoutBit};
 ghost use Rattle.bitvector.specs.Steps.{Step};
-ghost use Rattle.bitvector.specs.Calls.{answered, counted, said, roomy, sound, isEmptyCall, lenCall, containsCall, insertCall, removeCall};
+ghost use Rattle.bitvector.specs.Calls.{answered, counted, made, said, roomy, sound, newCall, onesCall, isEmptyCall, lenCall, containsCall, insertCall, removeCall};
 use bounds::MAX_BITS;
 use refusal::Refusal;
 
@@ -76,6 +76,16 @@ pub fn drop_bit(words: &mut [u64], bit: u64) -> bool
     false
 }
 
+// Puts one word into the first n places.
+pub fn fill(words: &mut [u64], n: usize, word: u64)
+    requires { ⌜ n ≤ length (now words) ⌝ }
+    ensures { λ _. ⌜ now (words .exit) ≡ replicate n word ++ drop n (now (words .entry)) ⌝ }
+{
+    for i in 0..n {
+        words[i] = word;
+    }
+}
+
 // ---- the checks
 
 // Whether the store has the words that a capacity needs, and the capacity is within the bound.
@@ -110,6 +120,33 @@ fn yes_if(yes: bool) -> Said
 }
 
 // ---- the calls
+
+// The empty set.
+pub fn new(capacity: u64, words: &mut [u64]) -> Made
+    ensures { λ r. ⌜ made r (now (words .exit)) ≡ newCall capacity (now (words .entry)) ⌝ }
+{
+    if !has_room(capacity, words) {
+        return Made::Refused(Refusal::UnfitSet);
+    }
+    fill(words, u64s(capacity) as usize, 0);
+    Made::Done
+}
+
+// The set of every number below the capacity.
+pub fn ones(capacity: u64, words: &mut [u64]) -> Made
+    ensures { λ r. ⌜ made r (now (words .exit)) ≡ onesCall capacity (now (words .entry)) ⌝ }
+{
+    if !has_room(capacity, words) {
+        return Made::Refused(Refusal::UnfitSet);
+    }
+    let whole = (capacity / 64) as usize;
+    fill(words, whole, !0);
+    let part = capacity % 64;
+    if part > 0 {
+        words[whole] = (1 << part) - 1;
+    }
+    Made::Done
+}
 
 // Whether the set has no number.
 pub fn is_empty(capacity: u64, words: &[u64]) -> Said

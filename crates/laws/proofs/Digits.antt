@@ -7,13 +7,16 @@ use native.Mathlib.Nat.{add-zero, add-comm, add-div-right, add-mul-div-right, di
 use native.Mathlib.Numerals.{add-one, one-add}
 use native.Mathlib.Decide.{decLt}
 use native.Mathlib.Omega.{arith}
+use borrow.Author.Tests.{lt-ltb, le-ltb}
 use lib.Arith.{bin-ind, digits-mod, lt-one}
 use lib.Bits.{bitOr, or-shr, or-step}
 use lib.Count.{ones, ones-cat, ones-step, trailingZeros, under}
+use lib.Dec.{ltb}
 use lib.Pow.{pow-pos, pow-add, mod-pow-add, pow-lt, shl-shr, shr-lt, shr-shr, high}
 use Rattle.laws.specs.Counting.{one, sum}
 use Rattle.laws.specs.Bits.{digit, number}
-use Rattle.laws.proofs.Ranks.{sum-below}
+use Rattle.laws.proofs.Sums.{sum-zero}
+use Rattle.laws.proofs.Ranks.{sum-below, sum-range}
 
 pub digit-lt : (w k : ℕ) → digit w k < 2
 digit-lt w k = omega arith
@@ -70,6 +73,23 @@ number-digit s (suc n) k h = elim (decLt k n) [
     go : (t : Bool) → one t % 2 ≡ one t
     go true = refl
     go false = refl
+
+-- the number whose low t digits are 1
+full : (t : ℕ) → number (λ k. true) t ≡ 2 ^ t - 1
+full zero = refl
+full (suc t) = omega (arith, full t, pow-suc 2 t, pow-pos t)
+
+pub number-low : (s : ℕ → Bool) (t n : ℕ) → t ≤ n → ((k : ℕ) → k < n → s k ≡ ltb k t) → number s n ≡ 2 ^ t - 1
+number-low s t n h e =
+    let w : ℕ → ℕ = λ k. one (s k) * 2 ^ k in
+    let q : n ≡ t + (n - t) = omega arith in
+    let low : sum w t ≡ 2 ^ t - 1 =
+    sum-below w (λ k. 1 * 2 ^ k) t (λ k l. ap (λ (b : Bool). one b * 2 ^ k) (e k (omega arith) ∙ lt-ltb k t l)) ∙ full t in
+    let up : sum (λ k. w (t + k)) (n - t) ≡ 0 =
+    sum-below (λ k. w (t + k)) (λ k. 0) (n - t)
+    (λ k l. ap (λ (b : Bool). one b * 2 ^ (t + k)) (e (t + k) (omega arith) ∙ le-ltb (t + k) t (omega arith)) ∙ omega arith)
+    ∙ sum-zero (n - t) in
+    ap (sum w) q ∙ sum-range w t (n - t) ∙ omega arith
 
 -- ---- one digit set by a sum, where it was 0
 

@@ -1,7 +1,7 @@
 -- Lists of words: their bits decide them, what setting and clearing one bit does, packing a plain set and reading it back, and counts of ones. Assumes nothing.
 use mathlib.Core.Path.{_≡_, refl, sym, ap, _∙_}
 use mathlib.Core.Bool.{Bool, true, false, not, cond, _||_, _&&_}
-use mathlib.Core.List.{List, [], _∷_}
+use mathlib.Core.List.{List, [], _∷_, _++_}
 use mathlib.Core.Logic.{_≢_}
 use Prim.Native.Nat.{ℕ, zero, suc, _+_, _-_, _*_, _/_, _%_, _^_, _≤_, _<_}
 use native.Mathlib.Nat.{add-zero, le-refl, lt-of-le-of-lt, mod-eq-of-lt, mod-lt, sub-le}
@@ -10,15 +10,15 @@ use native.Mathlib.Decide.{ℕ-discrete}
 use native.Mathlib.Omega.{arith}
 use borrow.Author.Tests.{eqb-true, eqb-false, eq-eqb, ne-eqb}
 use lib.Count.{ones}
-use lib.Dec.{eqb, lit<, lit≤}
-use lib.ListN.{length, getD, set, take, drop, length-set, List·getD-eq-default}
+use lib.Dec.{eqb, ltb, lit<, lit≤}
+use lib.ListN.{length, getD, set, take, drop, replicate, length-replicate, getD-replicate, length-set, List·getD-eq-default}
 use lib.Pow.{shr-lt}
 use lib.Seq.{getD-set-same, getD-set-other, set-out, drop-set-lt, ext-getD, length-take-le, take-length, getD-take}
 use Rattle.laws.specs.Counting.{one, sum, rank}
 use Rattle.laws.specs.Bits.{digit, bitAt, has, Words, withBit, withoutBit, number, packed}
 use Rattle.laws.proofs.Sums.{tri, Tri, lt, eq, gt, length-blocks, blocks-at}
 use Rattle.laws.proofs.Ranks.{sum-ones, sum-range, sum-below}
-use Rattle.laws.proofs.Digits.{digit-ext, number-lt, number-digit, up-same, up-other, up-fits, down-same, down-other, ones-low, digit-shr}
+use Rattle.laws.proofs.Digits.{digit-ext, number-lt, number-digit, number-low, up-same, up-other, up-fits, down-same, down-other, ones-low, digit-shr}
 
 -- ---- a bit as a number and as a test
 
@@ -267,6 +267,19 @@ packed-take n s ws h f e =
 
 pub packed-back : (ws : List ℕ) → Words ws → packed (length ws) (has ws) ≡ ws
 packed-back ws f = packed-take (length ws) (has ws) ws (le-refl (length ws)) f (λ b h. refl) ∙ take-length ws
+
+-- one word more
+pub packed-suc : (n : ℕ) (s : ℕ → Bool) → packed (suc n) s ≡ packed n s ++ (number (λ k. s (64 * n + k)) 64 ∷ [])
+unfolding packed
+packed-suc n s = refl
+
+-- words of which each has its low t digits set
+pub packed-low : (n t : ℕ) (s : ℕ → Bool) → t ≤ 64 → ((i k : ℕ) → i < n → k < 64 → s (64 * i + k) ≡ ltb k t) → packed n s ≡ replicate n (2 ^ t - 1)
+packed-low n t s h e =
+    ext-getD 0 (packed n s) (replicate n (2 ^ t - 1)) (length-packed n s ∙ sym (length-replicate n (2 ^ t - 1)))
+    (λ i l.
+    let m : i < n = rw (length-packed n s) at l in
+    packed-at n s i m ∙ number-low (λ k. s (64 * i + k)) t 64 h (λ k q. e i k m q) ∙ sym (getD-replicate n i (2 ^ t - 1) 0 m))
 
 -- ---- counts of ones
 
