@@ -2,3 +2,4 @@ pub mod Soundness
 pub mod Stores
 pub mod Sizes
 pub mod Fills
+pub mod Rising

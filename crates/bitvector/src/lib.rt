@@ -1,13 +1,16 @@
 // Sets of numbers below a capacity, in words that the caller lends (01's module 1): bit b is bit b mod 64 of word b / 64.
 ghost use mathlib.Core.Path.{_≡_};
-ghost use Prim.Native.Nat.{ℕ, _/_, _≤_, _<_};
+ghost use Prim.Native.Nat.{ℕ, _+_, _*_, _/_, _≤_, _<_};
 ghost use mathlib.Core.List.{List, _++_};
+ghost use lib.Count.{ones};
 ghost use lib.ListN.{length, drop, replicate};
+ghost use lib.Seq.{sets};
 ghost use Rattle.bounds.specs.Bounds.{maxBits};
-ghost use Rattle.laws.specs.Counting.{one};
+ghost use Rattle.laws.specs.Counting.{one, rank};
 ghost use Rattle.laws.specs.Bits.{wordsFor, has, withBit, withoutBit};
-ghost use Rattle.bitvector.specs.Steps.{Step};
-ghost use Rattle.bitvector.specs.Calls.{answered, counted, made, said, roomy, sound, newCall, onesCall, isEmptyCall, lenCall, containsCall, insertCall, removeCall};
+ghost use Rattle.bitvector.specs.Sets.{rising};
+ghost use Rattle.bitvector.specs.Steps.{Step, Listed};
+ghost use Rattle.bitvector.specs.Calls.{answered, counted, made, said, roomy, sound, newCall, onesCall, isEmptyCall, lenCall, containsCall, insertCall, removeCall, membersCall};
 use bounds::MAX_BITS;
 use refusal::Refusal;
 
@@ -83,6 +86,45 @@ pub fn fill(words: &mut [u64], n: usize, word: u64)
 {
     for i in 0..n {
         words[i] = word;
+    }
+}
+
+// How many bits are set in the first n words.
+pub fn count_bits(words: &[u64], n: usize) -> u64
+    requires { ⌜ (n ≤ length (now words)) × (n ≤ wordsFor maxBits) ⌝ }
+    ensures { λ r. ⌜ r ≡ rank (has (now (words .entry))) (64 * n) ⌝ }
+{
+    let mut count: u64 = 0;
+    for i in 0..n {
+        count += u64::count_ones(words[i]) as u64;
+    }
+    count
+}
+
+// The places of the word's set bits, from `base` on, rising, to `out` from `start` on; the place after them.
+fn list_word(word: u64, base: u64, out: &mut [u64], start: usize) -> usize
+    requires { ⌜ (base ≤ maxBits) × (start + ones word ≤ length (now out)) ⌝ }
+    ensures { λ r. ⌜ Listed base word start (now (out .entry)) r (now (out .exit)) ⌝ }
+{
+    let mut rest = word;
+    let mut next = start;
+    while rest != 0 {
+        let k = u64::trailing_zeros(rest) as u64;
+        out[next] = base + k;
+        next += 1;
+        rest -= 1 << k;
+    }
+    next
+}
+
+// The bits set in the first n words, rising, to the front of `out`.
+fn list_bits(words: &[u64], n: usize, out: &mut [u64])
+    requires { ⌜ (n ≤ length (now words)) × (n ≤ wordsFor maxBits) × (rank (has (now words)) (64 * n) ≤ length (now out)) ⌝ }
+    ensures { λ _. ⌜ now (out .exit) ≡ sets (now (out .entry)) 0 (rising (has (now (words .entry))) (64 * n)) ⌝ }
+{
+    let mut next: usize = 0;
+    for i in 0..n {
+        next = list_word(words[i], (i as u64) * 64, out, next);
     }
 }
 
@@ -171,12 +213,7 @@ pub fn len(capacity: u64, words: &[u64]) -> Counted
     if !is_sound(capacity, words) {
         return Counted::Refused(Refusal::UnfitSet);
     }
-    let need = u64s(capacity) as usize;
-    let mut n: u64 = 0;
-    for i in 0..need {
-        n += u64::count_ones(words[i]) as u64;
-    }
-    Counted::Count(n)
+    Counted::Count(count_bits(words, u64s(capacity) as usize))
 }
 
 pub fn contains(capacity: u64, words: &[u64], bit: u64) -> Said
@@ -215,4 +252,20 @@ pub fn remove(capacity: u64, words: &mut [u64], bit: u64) -> Said
         return Said::Refused(Refusal::BitOutside);
     }
     yes_if(drop_bit(words, bit))
+}
+
+// The numbers of the set, rising, to the front of `out`; how many they are.
+pub fn members(capacity: u64, words: &[u64], out: &mut [u64]) -> Counted
+    ensures { λ r. ⌜ counted r (now (out .exit)) ≡ membersCall capacity (now (words .entry)) (now (out .entry)) ⌝ }
+{
+    if !is_sound(capacity, words) {
+        return Counted::Refused(Refusal::UnfitSet);
+    }
+    let need = u64s(capacity) as usize;
+    let size = count_bits(words, need);
+    if size > out.len() as u64 {
+        return Counted::Refused(Refusal::ShortOutput);
+    }
+    list_bits(words, need, out);
+    Counted::Count(size)
 }
