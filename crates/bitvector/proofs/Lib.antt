@@ -3,3 +3,4 @@ pub mod Stores
 pub mod Sizes
 pub mod Fills
 pub mod Rising
+pub mod Agreement

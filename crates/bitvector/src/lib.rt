@@ -8,9 +8,9 @@ ghost use lib.Seq.{sets};
 ghost use Rattle.bounds.specs.Bounds.{maxBits};
 ghost use Rattle.laws.specs.Counting.{one, rank};
 ghost use Rattle.laws.specs.Bits.{wordsFor, has, withBit, withoutBit};
-ghost use Rattle.bitvector.specs.Sets.{rising};
-ghost use Rattle.bitvector.specs.Steps.{Step, Listed};
-ghost use Rattle.bitvector.specs.Calls.{answered, counted, made, said, roomy, sound, newCall, onesCall, isEmptyCall, lenCall, containsCall, insertCall, removeCall, membersCall};
+ghost use Rattle.bitvector.specs.Sets.{sameBelow, rising};
+ghost use Rattle.bitvector.specs.Steps.{Step, Listed, Joined};
+ghost use Rattle.bitvector.specs.Calls.{answered, counted, made, said, roomy, sound, newCall, onesCall, isEmptyCall, lenCall, containsCall, insertCall, removeCall, insertAllCall, eqLeftCall, membersCall};
 use bounds::MAX_BITS;
 use refusal::Refusal;
 
@@ -126,6 +126,38 @@ fn list_bits(words: &[u64], n: usize, out: &mut [u64])
     for i in 0..n {
         next = list_word(words[i], (i as u64) * 64, out, next);
     }
+}
+
+// Puts the bits of the first n words of `other` into those of `words`; whether one was new.
+fn join(words: &mut [u64], other: &[u64], n: usize) -> bool
+    requires { ⌜ (n ≤ length (now words)) × (n ≤ length (now other)) ⌝ }
+    ensures { λ r. ⌜ Joined n (now (words .entry)) (now (other .entry)) r (now (words .exit)) ⌝ }
+{
+    let mut new = false;
+    for i in 0..n {
+        let joined = words[i] | other[i];
+        new |= joined != words[i];
+        words[i] = joined;
+    }
+    new
+}
+
+// Whether the bits below `bit` are the same in both.
+fn same_left(words: &[u64], other: &[u64], bit: u64) -> bool
+    requires { ⌜ (wordsFor bit ≤ length (now words)) × (wordsFor bit ≤ length (now other)) ⌝ }
+    ensures { λ r. ⌜ r ≡ sameBelow (has (now (words .entry))) (has (now (other .entry))) bit ⌝ }
+{
+    let whole = (bit / 64) as usize;
+    for i in 0..whole {
+        if words[i] != other[i] {
+            return false;
+        }
+    }
+    let part = bit % 64;
+    if part == 0 {
+        return true;
+    }
+    words[whole] << (64 - part) == other[whole] << (64 - part)
 }
 
 // ---- the checks
@@ -252,6 +284,41 @@ pub fn remove(capacity: u64, words: &mut [u64], bit: u64) -> Said
         return Said::Refused(Refusal::BitOutside);
     }
     yes_if(drop_bit(words, bit))
+}
+
+// Puts the numbers of the other set in; whether the set has changed.
+pub fn insert_all(capacity: u64, words: &mut [u64], other_capacity: u64, other: &[u64]) -> Said
+    ensures { λ r. ⌜ said r (now (words .exit)) ≡ insertAllCall capacity (now (words .entry)) «other_capacity» (now (other .entry)) ⌝ }
+{
+    if !is_sound(capacity, words) {
+        return Said::Refused(Refusal::UnfitSet);
+    }
+    if !is_sound(other_capacity, other) {
+        return Said::Refused(Refusal::UnfitSet);
+    }
+    if capacity != other_capacity {
+        return Said::Refused(Refusal::UnfitSet);
+    }
+    yes_if(join(words, other, u64s(capacity) as usize))
+}
+
+// Whether the two sets have the same numbers below the bit.
+pub fn eq_left(capacity: u64, words: &[u64], other_capacity: u64, other: &[u64], bit: u64) -> Said
+    ensures { λ r. ⌜ said r (now (words .exit)) ≡ eqLeftCall capacity (now (words .entry)) «other_capacity» (now (other .entry)) bit ⌝ }
+{
+    if !is_sound(capacity, words) {
+        return Said::Refused(Refusal::UnfitSet);
+    }
+    if !is_sound(other_capacity, other) {
+        return Said::Refused(Refusal::UnfitSet);
+    }
+    if bit > capacity {
+        return Said::Refused(Refusal::BitOutside);
+    }
+    if bit > other_capacity {
+        return Said::Refused(Refusal::BitOutside);
+    }
+    yes_if(same_left(words, other, bit))
 }
 
 // The numbers of the set, rising, to the front of `out`; how many they are.

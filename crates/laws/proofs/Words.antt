@@ -15,10 +15,10 @@ use lib.ListN.{length, getD, set, take, drop, replicate, length-replicate, getD-
 use lib.Pow.{shr-lt}
 use lib.Seq.{getD-set-same, getD-set-other, set-out, drop-set-lt, ext-getD, length-take-le, take-length, getD-take}
 use Rattle.laws.specs.Counting.{one, sum, rank}
-use Rattle.laws.specs.Bits.{digit, bitAt, has, Words, withBit, withoutBit, number, packed}
+use Rattle.laws.specs.Bits.{digit, bitAt, has, Words, withBit, withoutBit, number, wordOf, packed}
 use Rattle.laws.proofs.Sums.{tri, Tri, lt, eq, gt, length-blocks, blocks-at}
-use Rattle.laws.proofs.Ranks.{sum-ones, sum-range, sum-below}
-use Rattle.laws.proofs.Digits.{digit-ext, number-lt, number-digit, number-low, up-same, up-other, up-fits, down-same, down-other, ones-low, digit-shr}
+use Rattle.laws.proofs.Ranks.{sum-ones, sum-range, sum-below, blocks-below}
+use Rattle.laws.proofs.Digits.{digit-ext, digits-sum, number-lt, number-digit, number-low, up-same, up-other, up-fits, down-same, down-other, ones-low, digit-shr}
 
 -- ---- a bit as a number and as a test
 
@@ -231,9 +231,9 @@ pub length-packed : (n : ℕ) (s : ℕ → Bool) → length (packed n s) ≡ n
 unfolding packed
 length-packed n s = length-blocks _ n ∙ sum-ones n
 
-pub packed-at : (n : ℕ) (s : ℕ → Bool) (i : ℕ) → i < n → getD (packed n s) i 0 ≡ number (λ k. s (64 * i + k)) 64
+pub packed-at : (n : ℕ) (s : ℕ → Bool) (i : ℕ) → i < n → getD (packed n s) i 0 ≡ wordOf s i
 unfolding packed
-packed-at n s i l = rw (sum-ones i, add-zero i) at (blocks-at (λ i. number (λ k. s (64 * i + k)) 64 ∷ []) (λ i. 1) (λ i. refl) n i 0 l (lit< tt))
+packed-at n s i l = rw (sum-ones i, add-zero i) at (blocks-at (λ i. wordOf s i ∷ []) (λ i. 1) (λ i. refl) n i 0 l (lit< tt))
 
 pub packed-has : (n : ℕ) (s : ℕ → Bool) (b : ℕ) → b < 64 * n → has (packed n s) b ≡ s b
 packed-has n s b h =
@@ -268,8 +268,22 @@ packed-take n s ws h f e =
 pub packed-back : (ws : List ℕ) → Words ws → packed (length ws) (has ws) ≡ ws
 packed-back ws f = packed-take (length ws) (has ws) ws (le-refl (length ws)) f (λ b h. refl) ∙ take-length ws
 
+-- the bits of a word from its first, as a number
+pub number-has : (ws : List ℕ) (i k : ℕ) → k ≤ 64 → number (λ j. has ws (64 * i + j)) k ≡ getD ws i 0 % 2 ^ k
+number-has ws i k h =
+    sum-below _ _ k (λ j l. ap (λ (d : ℕ). d * 2 ^ j) (has-one ws (64 * i + j) ∙ bit-in-word ws i j (omega arith))) ∙ sym (digits-sum (getD ws i 0) k)
+
+pub word-has : (ws : List ℕ) (i : ℕ) → getD ws i 0 < 2 ^ 64 → wordOf (has ws) i ≡ getD ws i 0
+word-has ws i h = number-has ws i 64 (lit≤ tt) ∙ mod-eq-of-lt h
+
+-- the words of sets that agree
+pub packed-below : (n : ℕ) (s t : ℕ → Bool) → ((b : ℕ) → b < 64 * n → s b ≡ t b) → packed n s ≡ packed n t
+unfolding packed
+packed-below n s t e =
+    blocks-below _ _ n (λ i l. ap (λ (w : ℕ). w ∷ []) (sum-below _ _ 64 (λ k m. ap (λ (b : Bool). one b * 2 ^ k) (e (64 * i + k) (omega arith)))))
+
 -- one word more
-pub packed-suc : (n : ℕ) (s : ℕ → Bool) → packed (suc n) s ≡ packed n s ++ (number (λ k. s (64 * n + k)) 64 ∷ [])
+pub packed-suc : (n : ℕ) (s : ℕ → Bool) → packed (suc n) s ≡ packed n s ++ (wordOf s n ∷ [])
 unfolding packed
 packed-suc n s = refl
 
