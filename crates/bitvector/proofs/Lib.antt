@@ -4,3 +4,4 @@ pub mod Sizes
 pub mod Fills
 pub mod Rising
 pub mod Agreement
+pub mod Unique
