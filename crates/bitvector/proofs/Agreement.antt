@@ -13,9 +13,9 @@ use lib.ListN.{length, getD, set, drop}
 use lib.Seq.{drop-cons, getD-at, set-at}
 use Rattle.laws.specs.Counting.{one, rank}
 use Rattle.laws.specs.Bits.{digit, has, wordsFor, number, wordOf, packed}
-use Rattle.laws.proofs.Ranks.{sum-range, sum-below, rank-below, rank-none, none-rank, eqb-both}
+use Rattle.laws.proofs.Ranks.{one-inj, sum-range, sum-below, rank-below, rank-none, none-rank, eqb-both}
 use Rattle.laws.proofs.Digits.{number-digit, number-or, shl-same}
-use Rattle.laws.proofs.Words.{one-inj, number-has, word-has, length-packed, packed-below, packed-suc}
+use Rattle.laws.proofs.Packing.{number-has, word-has, length-packed, packed-below, packed-suc}
 use Rattle.bitvector.specs.Sets.{Plain, union, sameBelow, setOf, stored}
 use Rattle.bitvector.specs.Calls.{answered, sound, insertAllCall, eqLeftCall}
 use Rattle.bitvector.proofs.Soundness.{set-bits}

@@ -1,6 +1,6 @@
 -- The words of the empty set, and of every number below a capacity. Assumes nothing.
-use mathlib.Core.Path.{_≡_, refl, sym, ap, _∙_}
-use mathlib.Core.List.{List, [], _∷_, _++_, append-assoc}
+use mathlib.Core.Path.{_≡_, sym, ap, _∙_}
+use mathlib.Core.List.{List, _++_, append-assoc}
 use Prim.Native.Nat.{ℕ, suc, _+_, _-_, _*_, _/_, _%_, _^_, _≤_, _<_}
 use native.Mathlib.Omega.{arith}
 use borrow.Author.Tests.{lt-ltb, le-ltb}
@@ -10,7 +10,7 @@ use lib.Seq.{drop-cons, set-at}
 use Rattle.laws.specs.Bits.{wordsFor, number, packed}
 use Rattle.laws.proofs.Sums.{Tri, tri, lt, eq, gt}
 use Rattle.laws.proofs.Digits.{number-low}
-use Rattle.laws.proofs.Words.{packed-suc, packed-low}
+use Rattle.laws.proofs.Packing.{packed-suc, packed-low}
 use Rattle.bitvector.specs.Sets.{none, allBelow, stored}
 
 pub emptied : (capacity : ℕ) (ws : List ℕ) → replicate (wordsFor capacity) 0 ++ drop (wordsFor capacity) ws ≡ stored capacity none ws

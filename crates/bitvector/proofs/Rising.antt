@@ -4,7 +4,7 @@ use mathlib.Core.Logic.{_≢_}
 use mathlib.Core.Bool.{Bool, true, false, cond}
 use mathlib.Core.List.{List, [], _∷_, _++_, append-nil}
 use Prim.Native.Nat.{ℕ, zero, suc, _+_, _-_, _*_, _^_, _≤_, _<_}
-use native.Mathlib.Nat.{add-zero, add-assoc, add-suc, mod-eq-of-lt, mul-comm, zero-add, suc-add}
+use native.Mathlib.Nat.{add-zero, add-suc, mod-eq-of-lt, mul-comm, zero-add, suc-add}
 use native.Mathlib.Decide.{ℕ-discrete}
 use native.Mathlib.Omega.{arith}
 use borrow.Author.Tests.{lt-ltb, le-leb, lt-leb}
@@ -14,11 +14,11 @@ use lib.ListN.{length, getD, set, drop}
 use lib.Pow.{pow-pos}
 use lib.Seq.{sets, sets-eq}
 use Rattle.laws.specs.Counting.{one, rank, blocks}
-use Rattle.laws.specs.Bits.{digit, bitAt, has, Words, wordsFor}
+use Rattle.laws.specs.Bits.{digit, has, wordsFor}
 use Rattle.laws.proofs.Sums.{length-blocks}
 use Rattle.laws.proofs.Ranks.{sum-below, blocks-range, blocks-below, blocks-none}
-use Rattle.laws.proofs.Digits.{Lowest, lowest, down-le, down-same, down-other, ones-low, digit-lt}
-use Rattle.laws.proofs.Words.{bit-in-word}
+use Rattle.laws.proofs.Digits.{lowest, down-le, down-same, down-other, ones-low, digit-lt}
+use Rattle.laws.proofs.Words.{has-digit}
 use Rattle.bitvector.specs.Sets.{Plain, rising, setOf}
 use Rattle.bitvector.specs.Steps.{places}
 use Rattle.bitvector.specs.Calls.{answered, sound, membersCall}
@@ -102,14 +102,18 @@ length-rising s n = length-blocks _ n ∙ sum-below _ (λ b. one (s b)) n (λ b 
     go b false = refl
 
 rising-next : (ws : List ℕ) (i : ℕ) → rising (has ws) (64 * (i + 1)) ≡ rising (has ws) (64 * i) ++ places (i * 64) (getD ws i 0)
-unfolding places has
+unfolding places
 rising-next ws i =
     let e : 64 * (i + 1) ≡ 64 * i + 64 = omega arith in
     let member : ℕ → List ℕ = λ b. cond (has ws b) (b ∷ []) [] in
     ap (blocks member) e ∙ blocks-range member (64 * i) 64
     ∙ ap (λ (l : List ℕ). rising (has ws) (64 * i) ++ l)
     (blocks-below _ _ 64
-    (λ k l. ap₂ (λ (d b : ℕ). cond (eqb d 1) (b ∷ []) []) (bit-in-word ws i k l) (ap (λ (b : ℕ). b + k) (mul-comm 64 i))))
+    (λ k l. ap₂ (λ (t : Bool) (b : ℕ). cond t (b ∷ []) []) (set-digit (has ws (64 * i + k)) ∙ ap (λ (d : ℕ). eqb d 1) (has-digit ws i k l)) (ap (λ (b : ℕ). b + k) (mul-comm 64 i))))
+  where
+    set-digit : (t : Bool) → t ≡ eqb (one t) 1
+    set-digit true = refl
+    set-digit false = refl
 
 sets-append : (l us vs : List ℕ) (i : ℕ) → sets l i (us ++ vs) ≡ sets (sets l i us) (i + length us) vs
 sets-append l [] vs i = ap (λ (k : ℕ). sets l k vs) (sym (add-zero i))

@@ -38,6 +38,13 @@ none-rank f n e k l = go (f k) refl
     go true h = absurd (omega (arith, rank-lt f k n h l))
     go false h = refl
 
+-- a test's number gives the test back
+pub one-inj : (s t : Bool) → one s ≡ one t → s ≡ t
+one-inj true true e = refl
+one-inj true false e = absurd (omega arith)
+one-inj false true e = absurd (omega arith)
+one-inj false false e = refl
+
 -- tests that hold together are one test
 pub eqb-both : (a b c d : ℕ) → (a ≡ b → c ≡ d) → (c ≡ d → a ≡ b) → eqb a b ≡ eqb c d
 eqb-both a b c d f g = go (eqb a b) refl

@@ -7,7 +7,7 @@ use lib.Count.{ones-le}
 use Rattle.laws.specs.Counting.{rank}
 use Rattle.laws.specs.Bits.{has}
 use Rattle.laws.proofs.Ranks.{rank-le}
-use Rattle.laws.proofs.Words.{rank-next}
+use Rattle.laws.proofs.Counts.{rank-next}
 use Rattle.bitvector.proofs.count_bits.Statement.{statement}
 use Rattle.bitvector.proofs.count_bits.Tie as tie
 

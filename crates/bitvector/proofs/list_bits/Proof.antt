@@ -8,7 +8,7 @@ use lib.Seq.{sets, length-sets}
 use Rattle.laws.specs.Counting.{one, rank}
 use Rattle.laws.specs.Bits.{has}
 use Rattle.laws.proofs.Sums.{sum-mono}
-use Rattle.laws.proofs.Words.{rank-next}
+use Rattle.laws.proofs.Counts.{rank-next}
 use Rattle.bitvector.specs.Sets.{rising}
 use Rattle.bitvector.proofs.Rising.{list-turn}
 use Rattle.bitvector.proofs.list_bits.Statement.{statement}
