@@ -5,3 +5,4 @@ pub mod Fills
 pub mod Rising
 pub mod Agreement
 pub mod Unique
+pub mod Rows

@@ -33,10 +33,13 @@ once A f back answer store x a b us vs e g = (
 refused : {A : Type 0} (r : Refusal) (a b : A) → cond (eqb (numberOf r) 0) a b ≡ b
 refused r a b = rw (ne-eqb (numberOf r) 0 (λ (e : numberOf r ≡ 0). omega (arith, number-pos r)))
 
+abbrev madeBack : Outcome → Made
+madeBack x = cond (eqb (x .refusal) 0) M.Done (M.Refused (caseOf (x .refusal) (x .value)))
+
 made-once : (x : Outcome) → Once Made made x
-made-once = once Made made (λ x. cond (eqb (x .refusal) 0) M.Done (M.Refused (caseOf (x .refusal) (x .value)))) answer store
+made-once = once Made made madeBack answer store
   where
-    answer : (a : Made) (ws : List ℕ) → cond (eqb (made a ws .refusal) 0) M.Done (M.Refused (caseOf (made a ws .refusal) (made a ws .value))) ≡ a
+    answer : (a : Made) (ws : List ℕ) → madeBack (made a ws) ≡ a
     answer M.Done ws = refl
     answer (M.Refused r) ws = refused r _ _ ∙ ap M.Refused (case-back r)
 

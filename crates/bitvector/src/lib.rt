@@ -1,4 +1,5 @@
 // Sets of numbers below a capacity, in words that the caller lends (01's module 1): bit b is bit b mod 64 of word b / 64.
+// First the public calls, which check what they are given, then the checks, then the steps on words that are known to be there.
 ghost use mathlib.Core.Path.{_≡_};
 ghost use Prim.Native.Nat.{ℕ, _+_, _*_, _/_, _≤_, _<_};
 ghost use mathlib.Core.List.{List, _++_};
@@ -10,10 +11,12 @@ ghost use Rattle.laws.specs.Counting.{one, rank};
 ghost use Rattle.laws.specs.Bits.{wordsFor, has, withBit, withoutBit};
 ghost use Rattle.bitvector.specs.Sets.{sameBelow, rising};
 ghost use Rattle.bitvector.specs.Steps.{Step, Listed, Joined};
-ghost use Rattle.bitvector.specs.Calls.{answered, counted, made, said, roomy, sound, newCall, onesCall, isEmptyCall, lenCall, containsCall, insertCall, removeCall, insertAllCall, eqLeftCall, membersCall};
+ghost use Rattle.bitvector.specs.Calls.{made, said, counted, answered, roomy, sound, newCall, onesCall, isEmptyCall, lenCall};
+ghost use Rattle.bitvector.specs.Calls.{containsCall, insertCall, removeCall, insertAllCall, eqLeftCall, membersCall};
 use bounds::MAX_BITS;
 use refusal::Refusal;
 
+// The answers of the calls: done; yes or no; a count. Each can be a refusal with its reason.
 pub enum Made {
     Done,
     Refused(Refusal),
@@ -30,6 +33,186 @@ pub enum Counted {
     Refused(Refusal),
 }
 
+// ---- the calls
+
+// The empty set.
+pub fn new(capacity: u64, words: &mut [u64]) -> Made
+    ensures { λ r. ⌜ made r (now (words .exit)) ≡ newCall capacity (now (words .entry)) ⌝ }
+{
+    if !has_room(capacity, words) {
+        return Made::Refused(Refusal::UnfitSet);
+    }
+    fill(words, u64s(capacity) as usize, 0);
+    Made::Done
+}
+
+// The set of every number below the capacity.
+pub fn ones(capacity: u64, words: &mut [u64]) -> Made
+    ensures { λ r. ⌜ made r (now (words .exit)) ≡ onesCall capacity (now (words .entry)) ⌝ }
+{
+    if !has_room(capacity, words) {
+        return Made::Refused(Refusal::UnfitSet);
+    }
+    let whole = (capacity / 64) as usize;
+    fill(words, whole, !0);
+    let part = capacity % 64;
+    if part > 0 {
+        words[whole] = (1 << part) - 1;
+    }
+    Made::Done
+}
+
+// Whether the set has no number.
+pub fn is_empty(capacity: u64, words: &[u64]) -> Said
+    ensures { λ r. ⌜ said r (now (words .exit)) ≡ isEmptyCall capacity (now (words .entry)) ⌝ }
+{
+    if !is_sound(capacity, words) {
+        return Said::Refused(Refusal::UnfitSet);
+    }
+    let need = u64s(capacity) as usize;
+    for i in 0..need {
+        if words[i] != 0 {
+            return Said::No;
+        }
+    }
+    Said::Yes
+}
+
+// How many numbers the set has.
+pub fn len(capacity: u64, words: &[u64]) -> Counted
+    ensures { λ r. ⌜ counted r (now (words .exit)) ≡ lenCall capacity (now (words .entry)) ⌝ }
+{
+    if !is_sound(capacity, words) {
+        return Counted::Refused(Refusal::UnfitSet);
+    }
+    Counted::Count(count_bits(words, u64s(capacity) as usize))
+}
+
+// Whether the bit is in the set.
+pub fn contains(capacity: u64, words: &[u64], bit: u64) -> Said
+    ensures { λ r. ⌜ said r (now (words .exit)) ≡ containsCall capacity (now (words .entry)) bit ⌝ }
+{
+    if !is_sound(capacity, words) {
+        return Said::Refused(Refusal::UnfitSet);
+    }
+    if bit >= capacity {
+        return Said::Refused(Refusal::BitOutside);
+    }
+    yes_if(has_bit(words, bit))
+}
+
+// Whether the bit is new.
+pub fn insert(capacity: u64, words: &mut [u64], bit: u64) -> Said
+    ensures { λ r. ⌜ said r (now (words .exit)) ≡ insertCall capacity (now (words .entry)) bit ⌝ }
+{
+    if !is_sound(capacity, words) {
+        return Said::Refused(Refusal::UnfitSet);
+    }
+    if bit >= capacity {
+        return Said::Refused(Refusal::BitOutside);
+    }
+    yes_if(!add_bit(words, bit))
+}
+
+// Whether the bit was there.
+pub fn remove(capacity: u64, words: &mut [u64], bit: u64) -> Said
+    ensures { λ r. ⌜ said r (now (words .exit)) ≡ removeCall capacity (now (words .entry)) bit ⌝ }
+{
+    if !is_sound(capacity, words) {
+        return Said::Refused(Refusal::UnfitSet);
+    }
+    if bit >= capacity {
+        return Said::Refused(Refusal::BitOutside);
+    }
+    yes_if(drop_bit(words, bit))
+}
+
+// Puts the numbers of the other set in; whether the set has changed.
+pub fn insert_all(capacity: u64, words: &mut [u64], other_capacity: u64, other: &[u64]) -> Said
+    ensures { λ r. ⌜ said r (now (words .exit)) ≡ insertAllCall capacity (now (words .entry)) «other_capacity» (now (other .entry)) ⌝ }
+{
+    if !is_sound(capacity, words) {
+        return Said::Refused(Refusal::UnfitSet);
+    }
+    if !is_sound(other_capacity, other) {
+        return Said::Refused(Refusal::UnfitSet);
+    }
+    if capacity != other_capacity {
+        return Said::Refused(Refusal::UnfitSet);
+    }
+    yes_if(join(words, other, u64s(capacity) as usize))
+}
+
+// Whether the two sets have the same numbers below the bit.
+pub fn eq_left(capacity: u64, words: &[u64], other_capacity: u64, other: &[u64], bit: u64) -> Said
+    ensures { λ r. ⌜ said r (now (words .exit)) ≡ eqLeftCall capacity (now (words .entry)) «other_capacity» (now (other .entry)) bit ⌝ }
+{
+    if !is_sound(capacity, words) {
+        return Said::Refused(Refusal::UnfitSet);
+    }
+    if !is_sound(other_capacity, other) {
+        return Said::Refused(Refusal::UnfitSet);
+    }
+    if bit > capacity {
+        return Said::Refused(Refusal::BitOutside);
+    }
+    if bit > other_capacity {
+        return Said::Refused(Refusal::BitOutside);
+    }
+    yes_if(same_left(words, other, bit))
+}
+
+// The numbers of the set, rising, to the front of `out`; how many they are.
+pub fn members(capacity: u64, words: &[u64], out: &mut [u64]) -> Counted
+    ensures { λ r. ⌜ counted r (now (out .exit)) ≡ membersCall capacity (now (words .entry)) (now (out .entry)) ⌝ }
+{
+    if !is_sound(capacity, words) {
+        return Counted::Refused(Refusal::UnfitSet);
+    }
+    let need = u64s(capacity) as usize;
+    let size = count_bits(words, need);
+    if size > out.len() as u64 {
+        return Counted::Refused(Refusal::ShortOutput);
+    }
+    list_bits(words, need, out);
+    Counted::Count(size)
+}
+
+// ---- the checks
+
+// Whether the store has the words that a capacity needs, and the capacity is within the bound.
+fn has_room(capacity: u64, words: &[u64]) -> bool
+    ensures { λ r. ⌜ r ≡ roomy capacity (now (words .entry)) ⌝ }
+{
+    if capacity > MAX_BITS {
+        return false;
+    }
+    u64s(capacity) <= words.len() as u64
+}
+
+// The same, and whether the last of them has no bit at or past the capacity.
+fn is_sound(capacity: u64, words: &[u64]) -> bool
+    ensures { λ r. ⌜ r ≡ sound capacity (now (words .entry)) ⌝ }
+{
+    if !has_room(capacity, words) {
+        return false;
+    }
+    let past = capacity % 64;
+    if past == 0 {
+        return true;
+    }
+    let at = (capacity / 64) as usize;
+    words[at] >> past == 0
+}
+
+fn yes_if(yes: bool) -> Said
+    ensures { λ r. ⌜ ((store : List ℕ) → said r store ≡ answered (one yes) store) ⌝ }
+{
+    if yes { Said::Yes } else { Said::No }
+}
+
+// ---- the steps
+
 // The words that so many bits take.
 pub fn u64s(bits: u64) -> u64
     requires { ⌜ bits ≤ maxBits ⌝ }
@@ -38,8 +221,7 @@ pub fn u64s(bits: u64) -> u64
     (bits + 63) / 64
 }
 
-// ---- one bit, in words that are there
-
+// Whether the bit is set.
 pub fn has_bit(words: &[u64], bit: u64) -> bool
     requires { ⌜ bit / 64 < length (now words) ⌝ }
     ensures { λ r. ⌜ r ≡ has (now (words .entry)) bit ⌝ }
@@ -158,181 +340,4 @@ fn same_left(words: &[u64], other: &[u64], bit: u64) -> bool
         return true;
     }
     words[whole] << (64 - part) == other[whole] << (64 - part)
-}
-
-// ---- the checks
-
-// Whether the store has the words that a capacity needs, and the capacity is within the bound.
-fn has_room(capacity: u64, words: &[u64]) -> bool
-    ensures { λ r. ⌜ r ≡ roomy capacity (now (words .entry)) ⌝ }
-{
-    if capacity > MAX_BITS {
-        return false;
-    }
-    u64s(capacity) <= words.len() as u64
-}
-
-// And whether the last of them has no bit at or past the capacity.
-fn is_sound(capacity: u64, words: &[u64]) -> bool
-    ensures { λ r. ⌜ r ≡ sound capacity (now (words .entry)) ⌝ }
-{
-    if !has_room(capacity, words) {
-        return false;
-    }
-    let past = capacity % 64;
-    if past == 0 {
-        return true;
-    }
-    let at = (capacity / 64) as usize;
-    words[at] >> past == 0
-}
-
-fn yes_if(yes: bool) -> Said
-    ensures { λ r. ⌜ ((store : List ℕ) → said r store ≡ answered (one yes) store) ⌝ }
-{
-    if yes { Said::Yes } else { Said::No }
-}
-
-// ---- the calls
-
-// The empty set.
-pub fn new(capacity: u64, words: &mut [u64]) -> Made
-    ensures { λ r. ⌜ made r (now (words .exit)) ≡ newCall capacity (now (words .entry)) ⌝ }
-{
-    if !has_room(capacity, words) {
-        return Made::Refused(Refusal::UnfitSet);
-    }
-    fill(words, u64s(capacity) as usize, 0);
-    Made::Done
-}
-
-// The set of every number below the capacity.
-pub fn ones(capacity: u64, words: &mut [u64]) -> Made
-    ensures { λ r. ⌜ made r (now (words .exit)) ≡ onesCall capacity (now (words .entry)) ⌝ }
-{
-    if !has_room(capacity, words) {
-        return Made::Refused(Refusal::UnfitSet);
-    }
-    let whole = (capacity / 64) as usize;
-    fill(words, whole, !0);
-    let part = capacity % 64;
-    if part > 0 {
-        words[whole] = (1 << part) - 1;
-    }
-    Made::Done
-}
-
-// Whether the set has no number.
-pub fn is_empty(capacity: u64, words: &[u64]) -> Said
-    ensures { λ r. ⌜ said r (now (words .exit)) ≡ isEmptyCall capacity (now (words .entry)) ⌝ }
-{
-    if !is_sound(capacity, words) {
-        return Said::Refused(Refusal::UnfitSet);
-    }
-    let need = u64s(capacity) as usize;
-    for i in 0..need {
-        if words[i] != 0 {
-            return Said::No;
-        }
-    }
-    Said::Yes
-}
-
-// How many numbers the set has.
-pub fn len(capacity: u64, words: &[u64]) -> Counted
-    ensures { λ r. ⌜ counted r (now (words .exit)) ≡ lenCall capacity (now (words .entry)) ⌝ }
-{
-    if !is_sound(capacity, words) {
-        return Counted::Refused(Refusal::UnfitSet);
-    }
-    Counted::Count(count_bits(words, u64s(capacity) as usize))
-}
-
-pub fn contains(capacity: u64, words: &[u64], bit: u64) -> Said
-    ensures { λ r. ⌜ said r (now (words .exit)) ≡ containsCall capacity (now (words .entry)) bit ⌝ }
-{
-    if !is_sound(capacity, words) {
-        return Said::Refused(Refusal::UnfitSet);
-    }
-    if bit >= capacity {
-        return Said::Refused(Refusal::BitOutside);
-    }
-    yes_if(has_bit(words, bit))
-}
-
-// Whether the bit is new.
-pub fn insert(capacity: u64, words: &mut [u64], bit: u64) -> Said
-    ensures { λ r. ⌜ said r (now (words .exit)) ≡ insertCall capacity (now (words .entry)) bit ⌝ }
-{
-    if !is_sound(capacity, words) {
-        return Said::Refused(Refusal::UnfitSet);
-    }
-    if bit >= capacity {
-        return Said::Refused(Refusal::BitOutside);
-    }
-    yes_if(!add_bit(words, bit))
-}
-
-// Whether the bit was there.
-pub fn remove(capacity: u64, words: &mut [u64], bit: u64) -> Said
-    ensures { λ r. ⌜ said r (now (words .exit)) ≡ removeCall capacity (now (words .entry)) bit ⌝ }
-{
-    if !is_sound(capacity, words) {
-        return Said::Refused(Refusal::UnfitSet);
-    }
-    if bit >= capacity {
-        return Said::Refused(Refusal::BitOutside);
-    }
-    yes_if(drop_bit(words, bit))
-}
-
-// Puts the numbers of the other set in; whether the set has changed.
-pub fn insert_all(capacity: u64, words: &mut [u64], other_capacity: u64, other: &[u64]) -> Said
-    ensures { λ r. ⌜ said r (now (words .exit)) ≡ insertAllCall capacity (now (words .entry)) «other_capacity» (now (other .entry)) ⌝ }
-{
-    if !is_sound(capacity, words) {
-        return Said::Refused(Refusal::UnfitSet);
-    }
-    if !is_sound(other_capacity, other) {
-        return Said::Refused(Refusal::UnfitSet);
-    }
-    if capacity != other_capacity {
-        return Said::Refused(Refusal::UnfitSet);
-    }
-    yes_if(join(words, other, u64s(capacity) as usize))
-}
-
-// Whether the two sets have the same numbers below the bit.
-pub fn eq_left(capacity: u64, words: &[u64], other_capacity: u64, other: &[u64], bit: u64) -> Said
-    ensures { λ r. ⌜ said r (now (words .exit)) ≡ eqLeftCall capacity (now (words .entry)) «other_capacity» (now (other .entry)) bit ⌝ }
-{
-    if !is_sound(capacity, words) {
-        return Said::Refused(Refusal::UnfitSet);
-    }
-    if !is_sound(other_capacity, other) {
-        return Said::Refused(Refusal::UnfitSet);
-    }
-    if bit > capacity {
-        return Said::Refused(Refusal::BitOutside);
-    }
-    if bit > other_capacity {
-        return Said::Refused(Refusal::BitOutside);
-    }
-    yes_if(same_left(words, other, bit))
-}
-
-// The numbers of the set, rising, to the front of `out`; how many they are.
-pub fn members(capacity: u64, words: &[u64], out: &mut [u64]) -> Counted
-    ensures { λ r. ⌜ counted r (now (out .exit)) ≡ membersCall capacity (now (words .entry)) (now (out .entry)) ⌝ }
-{
-    if !is_sound(capacity, words) {
-        return Counted::Refused(Refusal::UnfitSet);
-    }
-    let need = u64s(capacity) as usize;
-    let size = count_bits(words, need);
-    if size > out.len() as u64 {
-        return Counted::Refused(Refusal::ShortOutput);
-    }
-    list_bits(words, need, out);
-    Counted::Count(size)
 }

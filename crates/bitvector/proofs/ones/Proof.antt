@@ -24,7 +24,7 @@ ones-spec =
     (λ c. search needs)
     (λ c.
     let k = c .before .before .before .before .before .before .before .before .before .args .capacity % 64 in
-    rw (one-shl k (mod-lt _ (lit< tt))) (pow-pos k))
+    omega (arith, one-shl k (mod-lt _ (lit< tt)), pow-pos k))
     (λ c. search needs)
     (λ c.
     let h = c .before .before .before .before .before in
