@@ -3,7 +3,7 @@ use mathlib.Core.Path.{_≡_, refl, sym, ap, ap₂, _∙_}
 use mathlib.Core.Logic.{_≢_}
 use mathlib.Core.Bool.{Bool, true, false, cond}
 use mathlib.Core.List.{List, [], _∷_, _++_, append-nil}
-use Prim.Native.Nat.{ℕ, zero, suc, _+_, _-_, _*_, _^_, _≤_, _<_}
+use Prim.Native.Nat.{ℕ, zero, suc, _+_, _-_, _*_, _%_, _^_, _≤_, _<_}
 use native.Mathlib.Nat.{add-zero, add-suc, mod-eq-of-lt, mul-comm, zero-add, suc-add}
 use native.Mathlib.Decide.{ℕ-discrete}
 use native.Mathlib.Omega.{arith}
@@ -17,7 +17,7 @@ use Rattle.laws.specs.Counting.{one, rank, blocks}
 use Rattle.laws.specs.Bits.{digit, has, wordsFor}
 use Rattle.laws.proofs.Sums.{length-blocks}
 use Rattle.laws.proofs.Ranks.{sum-below, blocks-range, blocks-below, blocks-none}
-use Rattle.laws.proofs.Digits.{lowest, down-le, down-same, down-other, ones-low, digit-lt}
+use Rattle.laws.proofs.Digits.{digit-lt, down-le, down-same, down-other, one-shl, ones-low, lowest}
 use Rattle.laws.proofs.Words.{has-digit}
 use Rattle.bitvector.specs.Sets.{Plain, rising, setOf}
 use Rattle.bitvector.specs.Steps.{places}
@@ -76,6 +76,7 @@ length-places base w h =
 -- a turn of the loop over a word's digits
 pub record Turn (w k : ℕ) : Type 0 where
   pub within : k < 64
+  pub shifted : 1 * 2 ^ k % 2 ^ 64 ≡ 2 ^ k
   pub exact : 2 ^ k ≤ w
   pub some : 0 < 2 ^ k
   pub fewer : ones w ≡ 1 + ones (w - 2 ^ k)
@@ -87,6 +88,7 @@ turn w h n =
     let le : 2 ^ t ≤ w = down-le w t (low .set) in
     record {
       within = low .within;
+      shifted = one-shl t (low .within);
       exact = le;
       some = pow-pos t;
       fewer = omega (arith, length-places 0 w h, length-places 0 (w - 2 ^ t) (omega arith), ap length (places-pop 0 w h n));

@@ -310,13 +310,13 @@ fn list_bits(words: &[u64], n: usize, out: &mut [u64])
     }
 }
 
-// Puts the bits of the first n words of `other` into those of `words`; whether one was new.
-fn join(words: &mut [u64], other: &[u64], n: usize) -> bool
-    requires { ⌜ (n ≤ length (now words)) × (n ≤ length (now other)) ⌝ }
-    ensures { λ r. ⌜ Joined n (now (words .entry)) (now (other .entry)) r (now (words .exit)) ⌝ }
+// Puts the bits of the first `count` words of `other` into those of `words`; whether one was new.
+fn join(words: &mut [u64], other: &[u64], count: usize) -> bool
+    requires { ⌜ (count ≤ length (now words)) × (count ≤ length (now other)) ⌝ }
+    ensures { λ r. ⌜ Joined count (now (words .entry)) (now (other .entry)) r (now (words .exit)) ⌝ }
 {
     let mut new = false;
-    for i in 0..n {
+    for i in 0..count {
         let joined = words[i] | other[i];
         new |= joined != words[i];
         words[i] = joined;

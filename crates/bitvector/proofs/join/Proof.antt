@@ -13,12 +13,12 @@ use Rattle.bitvector.proofs.join.Statement.{statement}
 use Rattle.bitvector.proofs.join.Tie as tie
 
 abbrev Inv-loop : tie.InvT-loop
-Inv-loop words₀ other n new₀ i₀ words new i =
-    (i ≤ n) × (length words ≡ length words₀) × (new ≡ not (sameBelow (has words₀) (union (has words₀) (has other)) (64 * i)))
+Inv-loop words₀ other count new₀ i₀ words new i =
+    (i ≤ count) × (length words ≡ length words₀) × (new ≡ not (sameBelow (has words₀) (union (has words₀) (has other)) (64 * i)))
     × (words ≡ packed i (union (has words₀) (has other)) ++ drop i words₀)
 
 abbrev μ-loop : tie.MeasureT-loop
-μ-loop words₀ other n new₀ i₀ words new i = n - i
+μ-loop words₀ other count new₀ i₀ words new i = count - i
 
 pub join-spec : {M : Type 1} → statement M
 unfolding packed
@@ -47,7 +47,7 @@ join-spec =
     (λ c. search needs)
     (λ c.
     let a = c .before .before .args in
-    let e : c .before .loop .i ≡ a .n = omega arith in
+    let e : c .before .loop .i ≡ a .count = omega arith in
     let both : List ℕ → List ℕ → ℕ → Bool = λ ws us b. union (has ws) (has us) b in
     record {
       new = c .before .loop .inv .2 ∙ ap (λ (k : ℕ). not (sameBelow (has (a .words .now)) (both (a .words .now) (a .other .now)) (64 * k))) e;
