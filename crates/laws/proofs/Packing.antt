@@ -1,12 +1,12 @@
 -- Packing a plain set into words and reading it back: the bits decide the words. Assumes nothing.
-use mathlib.Core.Path.{_≡_, refl, sym, ap, _∙_}
+use mathlib.Core.Path.{_≡_, refl, sym, ap, ap₂, _∙_}
 use mathlib.Core.Bool.{Bool}
 use mathlib.Core.List.{List, [], _∷_, _++_}
 use Prim.Native.Nat.{ℕ, suc, _+_, _-_, _*_, _/_, _%_, _^_, _≤_, _<_}
 use native.Mathlib.Nat.{add-zero, le-refl, mod-eq-of-lt, mod-lt}
 use native.Mathlib.Omega.{arith}
 use lib.Dec.{ltb, lit<, lit≤}
-use lib.ListN.{length, getD, take, replicate, length-replicate, getD-replicate}
+use lib.ListN.{length, getD, take, drop, replicate, take-append-drop, length-replicate, getD-replicate}
 use lib.Seq.{ext-getD, length-take-le, take-length, getD-take}
 use Rattle.laws.specs.Counting.{one}
 use Rattle.laws.specs.Bits.{digit, has, Words, number, wordOf, packed}
@@ -72,6 +72,12 @@ packed-take n ws h f =
 
 pub packed-back : (ws : List ℕ) → Words ws → packed (length ws) (has ws) ≡ ws
 packed-back ws f = packed-take (length ws) ws (le-refl (length ws)) f ∙ take-length ws
+
+-- a store whose first n words hold a plain set, and which is as it was past them
+pub packed-store : (n : ℕ) (s : ℕ → Bool) (ws us : List ℕ) → n ≤ length us → Words us → ((b : ℕ) → b < 64 * n → s b ≡ has us b)
+    → drop n us ≡ drop n ws → us ≡ packed n s ++ drop n ws
+packed-store n s ws us h f e d =
+    sym (take-append-drop n us) ∙ ap₂ (λ (x y : List ℕ). x ++ y) (sym (packed-below n s (has us) e ∙ packed-take n us h f)) d
 
 -- two lists of words with the same bits are the same
 pub words-ext : (us vs : List ℕ) → length us ≡ length vs → Words us → Words vs → ((b : ℕ) → b < 64 * length us → has us b ≡ has vs b) → us ≡ vs

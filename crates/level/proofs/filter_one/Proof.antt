@@ -1,0 +1,23 @@
+-- `level::filter_one` meets its contract. Assumes nothing.
+use mathlib.Core.Path.{sym, _∙_}
+use borrow.Author.Needs.{needs}
+use Rattle.level.proofs.Filtering.{filter-on, filter-off}
+use Rattle.level.proofs.Spots.{own-word, collide-word}
+use Rattle.level.proofs.filter_one.Statement.{statement}
+use Rattle.level.proofs.filter_one.Tie as tie
+
+pub filter-one-spec : {M : Type 1} → statement M
+filter-one-spec =
+    tie.close
+    (tie.spec
+    (λ c κs. search needs)
+    (λ c κs. collide-word _ _ (c .before .before .before .pre) (c .hashmod .ensures))
+    (λ c κs. own-word _ _ (c .before .before .before .before .before .before .pre) (c .before .before .before .hashmod .ensures))
+    (λ c. search needs)
+    (λ c.
+    let bit = c .before .before .before .before .before .before .hashmod .ensures in
+    let e = rw bit at (sym (c .before .before .before .before .before .has-bit .ensures) ∙ c .before .before .before .before .if1 .taken) in
+    record { on = sym e; words-are = c .before .before .drop-bit .ensures .words ∙ rw bit (sym (filter-on _ _ _ _ e)) })
+    (λ c.
+    let e = rw (c .before .before .hashmod .ensures) at (sym (c .before .has-bit .ensures) ∙ c .if1 .left) in
+    record { on = sym e; words-are = sym (filter-off _ _ _ _ e) }))
