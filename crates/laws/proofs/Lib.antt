@@ -6,3 +6,4 @@ pub mod Digits
 pub mod Words
 pub mod Packing
 pub mod Ones
+pub mod Parts

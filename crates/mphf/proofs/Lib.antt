@@ -1,2 +1,3 @@
 pub mod Fits
 pub mod Finds
+pub mod Turns
