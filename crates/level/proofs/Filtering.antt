@@ -1,6 +1,6 @@
 -- Filtering, bit by bit: of the positions that ids have, those that collide has leave the level; and the rest store as the loop compacts it. Assumes nothing.
 use mathlib.Core.Path.{_≡_, refl, sym, ap, _∙_}
-use mathlib.Core.Bool.{Bool, true, false, not, cond, _||_, _&&_, and-true, and-false}
+use mathlib.Core.Bool.{Bool, true, false, not, _||_, _&&_, and-true, and-false}
 use mathlib.Core.List.{List, [], _∷_, _++_, append-nil}
 use mathlib.Core.Logic.{_≢_}
 use Prim.Native.Nat.{ℕ, suc, _+_, _-_, _/_, _≤_, _<_}
@@ -90,43 +90,42 @@ front-more front store x h =
 
 -- ---- the loop, after the first i ids of the rest store
 
-module _ (g : ℕ → ℕ) (collide ws store : List ℕ) where
-  pub filter-none : Filtered g collide ws (take 0 store) store 0 ws store
-  filter-none = record { words-are = refl; store-is = refl; count-is = refl }
+pub filter-none : (g : ℕ → ℕ) (collide ws store : List ℕ) → Filtered g collide 0 ws store 0 ws store
+filter-none g collide ws store = record { words-are = refl; store-is = refl; count-is = refl }
 
-  module _ (i : ℕ) {kept : ℕ} {ws₁ store₁ : List ℕ} (t : Filtered g collide ws (take i store) store kept ws₁ store₁) where
-    pub kept-le : i ≤ length store → kept ≤ i
-    kept-le h =
-        omega (arith, t .count-is, length-sift (goesOn g collide) (take i store), tally-not (goesOn g collide) (take i store), length-take-le i store h)
+module _ {g : ℕ → ℕ} {collide ws store : List ℕ} {i kept : ℕ} {ws₁ store₁ : List ℕ} (t : Filtered g collide i ws store kept ws₁ store₁) where
+  pub kept-le : i ≤ length store → kept ≤ i
+  kept-le h =
+      omega (arith, t .count-is, length-sift (goesOn g collide) (take i store), tally-not (goesOn g collide) (take i store), length-take-le i store h)
 
-    pub kept-length : i ≤ length store → length store₁ ≡ length store
-    kept-length h = rw (t .store-is, length-append, length-drop, ← (t .count-is)) (omega (arith, kept-le h))
+  pub kept-length : i ≤ length store → length store₁ ≡ length store
+  kept-length h = rw (t .store-is, length-append, length-drop, ← (t .count-is)) (omega (arith, kept-le h))
 
-    module _ (h : i < length store) {told : Bool} {ws₂ : List ℕ} (u : OneFiltered g collide ws₁ (getD store₁ i 0) told ws₂) where
-      -- the next id is still where it stood
-      next-id : getD store₁ i 0 ≡ getD store i 0
-      next-id = rw (t .store-is) (front-past (sift (goesOn g collide) (take i store)) store i (rw (← (t .count-is)) (kept-le (omega arith))))
+  module _ (h : i < length store) {told : Bool} {ws₂ : List ℕ} (u : OneFiltered g collide ws₁ (getD store₁ i 0) told ws₂) where
+    -- the next id is still where it stood
+    next-id : getD store₁ i 0 ≡ getD store i 0
+    next-id = rw (t .store-is) (front-past (sift (goesOn g collide) (take i store)) store i (rw (← (t .count-is)) (kept-le (omega arith))))
 
-      next-told : {b : Bool} → told ≡ b → goesOn g collide (getD store i 0) ≡ b
-      next-told e = rw next-id at (sym (u .on) ∙ e)
+    next-told : {b : Bool} → told ≡ b → goesOn g collide (getD store i 0) ≡ b
+    next-told e = rw next-id at (sym (u .on) ∙ e)
 
-      next-words : ws₂ ≡ filterAll g collide ws (take (i + 1) store)
-      next-words = u .words-are ∙ rw (t .words-are, next-id) (sym (fold-next (filterOne g collide) ws store i h))
+    next-words : ws₂ ≡ filterAll g collide ws (take (i + 1) store)
+    next-words = fold-next (filterOne g collide) ws store i h (t .words-are) (rw next-id at (u .words-are))
 
-      pub filter-out : told ≡ false → Filtered g collide ws (take (i + 1) store) store kept ws₂ store₁
-      filter-out e = record { words-are = next-words; store-is = rw same (t .store-is); count-is = rw same (t .count-is) }
-        where
-          same : sift (goesOn g collide) (take (i + 1) store) ≡ sift (goesOn g collide) (take i store)
-          same = rw (add-one i, sift-take (goesOn g collide) store i h, next-told e) (append-nil (sift (goesOn g collide) (take i store)))
+    pub filter-out : told ≡ false → Filtered g collide (i + 1) ws store kept ws₂ store₁
+    filter-out e = record { words-are = next-words; store-is = rw same (t .store-is); count-is = rw same (t .count-is) }
+      where
+        same : sift (goesOn g collide) (take (i + 1) store) ≡ sift (goesOn g collide) (take i store)
+        same = rw (add-one i, sift-take (goesOn g collide) store i h, next-told e) (append-nil (sift (goesOn g collide) (take i store)))
 
-      pub filter-in : told ≡ true → Filtered g collide ws (take (i + 1) store) store (kept + 1) ws₂ (set store₁ kept (getD store₁ i 0))
-      filter-in e = record {
-        words-are = next-words;
-        store-is =
-            rw (next-id, more, t .store-is, t .count-is)
-            (front-more (sift (goesOn g collide) (take i store)) store (getD store i 0) (rw (← (t .count-is)) (omega (arith, kept-le (omega arith)))));
-        count-is = rw (more, length-append, t .count-is);
-      }
-        where
-          more : sift (goesOn g collide) (take (i + 1) store) ≡ sift (goesOn g collide) (take i store) ++ (getD store i 0 ∷ [])
-          more = rw (add-one i, sift-take (goesOn g collide) store i h, next-told e)
+    pub filter-in : told ≡ true → Filtered g collide (i + 1) ws store (kept + 1) ws₂ (set store₁ kept (getD store₁ i 0))
+    filter-in e = record {
+      words-are = next-words;
+      store-is =
+          rw (next-id, more, t .store-is, t .count-is)
+          (front-more (sift (goesOn g collide) (take i store)) store (getD store i 0) (rw (← (t .count-is)) (omega (arith, kept-le (omega arith)))));
+      count-is = rw (more, length-append, t .count-is);
+    }
+      where
+        more : sift (goesOn g collide) (take (i + 1) store) ≡ sift (goesOn g collide) (take i store) ++ (getD store i 0 ∷ [])
+        more = rw (add-one i, sift-take (goesOn g collide) store i h, next-told e)

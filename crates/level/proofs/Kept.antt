@@ -5,7 +5,7 @@ use mathlib.Core.List.{List, _++_}
 use Prim.Native.Nat.{ℕ, _*_, _/_, _%_, _^_, _≤_, _<_}
 use native.Mathlib.Nat.{zero-div}
 use native.Mathlib.Omega.{arith}
-use lib.ListN.{length, getD, take, drop, getD-replicate}
+use lib.ListN.{length, getD, drop, getD-replicate}
 use lib.Seq.{getD-take}
 use Rattle.laws.specs.Bits.{digit, has, Words, wordsFor, withBit, withoutBit, packed}
 use Rattle.laws.proofs.Words.{has-clear, length-with, length-without, drop-with, drop-without, words-with, words-without}

@@ -7,13 +7,11 @@ use mathlib.Core.Logic.{_≢_}
 use native.Mathlib.Nat.{add-zero, zero-add, add-assoc}
 use native.Mathlib.Decide.{ℕ-discrete}
 use native.Mathlib.Omega.{arith}
-use borrow.Author.Tests.{eq-eqb, ne-eqb, le-leb}
+use borrow.Author.Tests.{eq-eqb, ne-eqb}
 use lib.Dec.{eqb, leb}
 use lib.ListN.{length, drop}
 use Rattle.laws.specs.Counting.{one, hits}
 use Rattle.laws.specs.Bits.{has, Words, wordsFor, withBit, packed}
-use Rattle.laws.proofs.Cases.{Tri, lt, eq, gt, tri}
-use Rattle.laws.proofs.Ranks.{eqb-both}
 use Rattle.laws.proofs.Words.{with-has}
 use Rattle.level.specs.Level.{Clear, Stores, stores, markOne, markAll, met, shared}
 use Rattle.level.proofs.Folds.{fold-keeps}
@@ -45,7 +43,8 @@ module _ (g : ℕ → ℕ) (s : Stores) (id : ℕ) where
   mark-first e f = rw (e, f)
 
   -- what holds after each of them holds after marking
-  mark-cases : (P : Stores → Type 0) → P s → P (stores (s .words) (withBit (s .collide) (g id))) → P (stores (withBit (s .words) (g id)) (s .collide)) → P (markOne g s id)
+  mark-cases : (P : Stores → Type 0) → P s → P (stores (s .words) (withBit (s .collide) (g id))) → P (stores (withBit (s .words) (g id)) (s .collide))
+      → P (markOne g s id)
   mark-cases P none again first = go (has (s .collide) (g id)) refl (has (s .words) (g id)) refl
     where
       go : (t : Bool) → has (s .collide) (g id) ≡ t → (u : Bool) → has (s .words) (g id) ≡ u → P (markOne g s id)
