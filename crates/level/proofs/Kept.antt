@@ -1,4 +1,4 @@
--- What a level keeps of a store while it changes bits below its size, and the store then from the bits that its needed words have. Assumes nothing.
+-- What changing bits below a size keeps of a store, and which store it leaves, from the bits that are then set. Assumes nothing.
 use mathlib.Core.Path.{_≡_, refl, sym, ap, _∙_}
 use mathlib.Core.Bool.{Bool, false}
 use mathlib.Core.List.{List, _++_}
@@ -13,7 +13,7 @@ use Rattle.bitvector.specs.Sets.{stored}
 use Rattle.bitvector.proofs.Stores.{stored-is}
 use Rattle.level.specs.Level.{Clear}
 
--- the words past those that the size needs are as they were, and there are as many
+-- there are as many words, those past the needed ones are as they were, and all are still words
 pub record Kept (size : ℕ) (ws us : List ℕ) : Type 0 where
   pub same-length : length us ≡ length ws
   pub past : drop (wordsFor size) us ≡ drop (wordsFor size) ws
@@ -44,7 +44,7 @@ module _ (size : ℕ) where
     still-words = words-without ws b;
   }
 
-  -- the needed words hold a plain set where their bits are its numbers
+  -- where the bits of the needed words are the numbers of a plain set, they are that set packed
   pub holds : (s : ℕ → Bool) {ws us : List ℕ} → wordsFor size ≤ length ws → Words ws → Kept size ws us
       → ((b : ℕ) → b < 64 * wordsFor size → has us b ≡ s b) → us ≡ packed (wordsFor size) s ++ drop (wordsFor size) ws
   unfolding stored

@@ -19,7 +19,9 @@ mark-one-spec =
     (tie.spec
     (λ c κs. search needs)
     (λ c κs. let s = c .before .before .before .before in omega (arith, position-lt (s .args .level) (s .args .size) (s .args .id) (s .pre .positive)))
-    (λ c κs. let s = c .before .before .before .before .before .before .before in omega (arith, position-lt (s .args .level) (s .args .size) (s .args .id) (s .pre .positive)))
+    (λ c κs.
+    let s = c .before .before .before .before .before .before .before in
+    omega (arith, position-lt (s .args .level) (s .args .size) (s .args .id) (s .pre .positive)))
     (λ c κs.
     let s = c .before .before .before .before .before .before .before .before .before .before .before .before in
     omega (arith, position-lt (s .args .level) (s .args .size) (s .args .id) (s .pre .positive)))

@@ -23,7 +23,11 @@ place-spec =
     let m = c .before .before .before .before .before .before .before .before .before .before .before .before in
     let s = m .before .before .before .before .before .before .before in
     placed _ _ (λ id. position-lt (s .args .level) (s .args .size) id (s .pre .0 .positive)) (stores _ _)
-    (record { own = s .pre .0 .own-room; other = s .pre .0 .collide-room }) (s .pre .2) (s .pre .3)
-    (λ i. m .before .before .before .before .before .slice-known2 .given i .fits)
-    (λ i. m .before .before .before .before .slice-known3 .given i .fits)
+    (record {
+      room = record { own = s .pre .0 .own-room; other = s .pre .0 .collide-room };
+      own-clear = s .pre .2;
+      other-clear = s .pre .3;
+      own-words = λ i. m .before .before .before .before .before .slice-known2 .given i .fits;
+      other-words = λ i. m .before .before .before .before .slice-known3 .given i .fits;
+    })
     _ _ (m .mark .ensures) (c .before .before .before .before .filter .ensures)))
