@@ -14,11 +14,11 @@ use lib.Seq.{length-take-le, drop-cons, set-append-seam, getD-append-add, getD-d
 use Rattle.laws.specs.Counting.{hits, sift}
 use Rattle.laws.specs.Bits.{has, wordsFor, withoutBit}
 use Rattle.laws.proofs.Counts.{length-sift, tally-not, sift-take}
-use Rattle.laws.proofs.Words.{without-has}
+use Rattle.laws.proofs.Words.{without-put}
 use Rattle.level.specs.Level.{goesOn, filterOne, filterAll, fronted, OneFiltered, Filtered, met}
 use Rattle.level.proofs.Folds.{fold-next, fold-keeps}
 use Rattle.level.proofs.Few.{any-more}
-use Rattle.level.proofs.Kept.{Kept, kept-none, kept-more, kept-without}
+use Rattle.level.proofs.Kept.{Kept, kept-none, kept-more, kept-put, put-here, put-other}
 
 -- ---- one id
 
@@ -36,11 +36,11 @@ module _ (g : ℕ → ℕ) (collide ws : List ℕ) (id : ℕ) where
   filtered h j = elim (ℕ-discrete j (g id)) [ yes e ↦ rw e (here (goesOn g collide id) refl) | no n ↦ there n (goesOn g collide id) refl ]
     where
       here : (t : Bool) → goesOn g collide id ≡ t → has (filterOne g collide ws id) (g id) ≡ has ws (g id) && not (eqb (g id) (g id) && has collide (g id))
-      here true e = rw (filter-on e, without-has ws (g id) h (g id), e, eq-eqb (g id) (g id) refl, and-false)
+      here true e = rw (filter-on e, put-here (without-put ws (g id)) h, e, eq-eqb (g id) (g id) refl, and-false)
       here false e = rw (filter-off e, e, and-false, and-true)
 
       there : j ≢ g id → (t : Bool) → goesOn g collide id ≡ t → has (filterOne g collide ws id) j ≡ has ws j && not (eqb (g id) j && has collide j)
-      there n true e = rw (filter-on e, without-has ws (g id) h j, ne-eqb j (g id) n, ne-eqb (g id) j (λ q. n (sym q)), and-true)
+      there n true e = rw (filter-on e, put-other (without-put ws (g id)) h j n, ne-eqb (g id) j (λ q. n (sym q)), and-true)
       there n false e = rw (filter-off e, ne-eqb (g id) j (λ q. n (sym q)), and-true)
 
 -- ---- a list of ids
@@ -50,7 +50,7 @@ module _ (g : ℕ → ℕ) (size : ℕ) (within : (id : ℕ) → g id < size) (c
   filter-one-keeps ws id = go (goesOn g collide id) refl
     where
       go : (t : Bool) → goesOn g collide id ≡ t → Kept size ws (filterOne g collide ws id)
-      go true e = rw (filter-on g collide ws id e) (kept-without size ws (g id) (within id))
+      go true e = rw (filter-on g collide ws id e) (kept-put size (without-put ws (g id)) (within id))
       go false e = rw (filter-off g collide ws id e) (kept-none size ws)
 
   pub filter-keeps : (ws ids : List ℕ) → Kept size ws (filterAll g collide ws ids)

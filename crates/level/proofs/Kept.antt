@@ -3,14 +3,15 @@ use mathlib.Core.Path.{_≡_, refl, sym, ap, _∙_}
 use mathlib.Core.Bool.{Bool, false}
 use mathlib.Core.List.{List, _++_}
 use Prim.Native.Nat.{ℕ, _*_, _/_, _%_, _^_, _≤_, _<_}
+use mathlib.Core.Logic.{_≢_}
 use native.Mathlib.Nat.{zero-div}
 use native.Mathlib.Omega.{arith}
+use borrow.Author.Tests.{eq-eqb, ne-eqb}
 use lib.ListN.{length, getD, drop, getD-replicate}
 use lib.Seq.{getD-take}
-use Rattle.laws.specs.Bits.{digit, has, Words, wordsFor, withBit, withoutBit, packed}
-use Rattle.laws.proofs.Words.{has-clear, length-with, length-without, drop-with, drop-without, words-with, words-without}
-use Rattle.bitvector.specs.Sets.{stored}
-use Rattle.bitvector.proofs.Stores.{stored-is}
+use Rattle.laws.specs.Bits.{digit, has, Words, wordsFor, packed}
+use Rattle.laws.proofs.Words.{has-clear, Put, put-length, put-drop, put-words, put-has}
+use Rattle.laws.proofs.Packing.{packed-store}
 use Rattle.level.specs.Level.{Clear}
 
 -- there are as many words, those past the needed ones are as they were, and all are still words
@@ -30,25 +31,21 @@ module _ (size : ℕ) where
     still-words = λ f. l .still-words (k .still-words f);
   }
 
-  pub kept-with : (ws : List ℕ) (b : ℕ) → b < size → Kept size ws (withBit ws b)
-  kept-with ws b h = record {
-    same-length = length-with ws b;
-    past = drop-with ws b (wordsFor size) (omega arith);
-    still-words = words-with ws b;
-  }
-
-  pub kept-without : (ws : List ℕ) (b : ℕ) → b < size → Kept size ws (withoutBit ws b)
-  kept-without ws b h = record {
-    same-length = length-without ws b;
-    past = drop-without ws b (wordsFor size) (omega arith);
-    still-words = words-without ws b;
-  }
+  -- one bit below the size is set or cleared
+  pub kept-put : {ws us : List ℕ} {b : ℕ} {t : Bool} → Put ws b t us → b < size → Kept size ws us
+  kept-put p h = record { same-length = put-length p; past = put-drop p (wordsFor size) (omega arith); still-words = put-words p }
 
   -- where the bits of the needed words are the numbers of a plain set, they are that set packed
   pub holds : (s : ℕ → Bool) {ws us : List ℕ} → wordsFor size ≤ length ws → Words ws → Kept size ws us
       → ((b : ℕ) → b < 64 * wordsFor size → has us b ≡ s b) → us ≡ packed (wordsFor size) s ++ drop (wordsFor size) ws
-  unfolding stored
-  holds s {ws} {us} h f k e = stored-is size s ws us (rw (k .same-length) h) (k .still-words f) (λ b l. sym (e b l)) (k .past)
+  holds s {ws} {us} h f k e = packed-store (wordsFor size) s ws us (rw (k .same-length) h) (k .still-words f) (λ b l. sym (e b l)) (k .past)
+
+-- a bit put to t, at its place and at another
+pub put-here : {ws us : List ℕ} {b : ℕ} {t : Bool} → Put ws b t us → b / 64 < length ws → has us b ≡ t
+put-here {ws} {us} {b} p h = put-has p h b ∙ rw (eq-eqb b b refl)
+
+pub put-other : {ws us : List ℕ} {b : ℕ} {t : Bool} → Put ws b t us → b / 64 < length ws → (j : ℕ) → j ≢ b → has us j ≡ has ws j
+put-other {ws} {us} {b} p h j n = put-has p h j ∙ rw (ne-eqb j b n)
 
 -- words that are 0 have no bit
 pub clear-has : (n : ℕ) (ws : List ℕ) → Clear n ws → (b : ℕ) → b < 64 * n → has ws b ≡ false

@@ -12,19 +12,11 @@ use lib.Dec.{eqb, leb}
 use lib.ListN.{length, drop}
 use Rattle.laws.specs.Counting.{one, hits}
 use Rattle.laws.specs.Bits.{has, Words, wordsFor, withBit, packed}
-use Rattle.laws.proofs.Words.{with-has}
+use Rattle.laws.proofs.Words.{with-put}
 use Rattle.level.specs.Level.{Clear, Stores, stores, markOne, markAll, met, shared}
 use Rattle.level.proofs.Folds.{fold-keeps}
 use Rattle.level.proofs.Few.{first-more, again-more}
-use Rattle.level.proofs.Kept.{Kept, kept-none, kept-more, kept-with, holds, clear-has}
-
--- ---- one bit more, at its place and at another
-
-with-here : (ws : List ℕ) (b : ℕ) → b / 64 < length ws → has (withBit ws b) b ≡ true
-with-here ws b h = with-has ws b h b ∙ rw (eq-eqb b b refl)
-
-with-other : (ws : List ℕ) (b : ℕ) → b / 64 < length ws → (j : ℕ) → j ≢ b → has (withBit ws b) j ≡ has ws j
-with-other ws b h j n = with-has ws b h j ∙ rw (ne-eqb j b n)
+use Rattle.level.proofs.Kept.{Kept, kept-none, kept-more, kept-put, holds, put-here, put-other, clear-has}
 
 -- ---- one id
 
@@ -66,8 +58,14 @@ module _ (g : ℕ → ℕ) (s : Stores) (id : ℕ) where
 
         go : (t : Bool) → has (s .collide) (g id) ≡ t → (u : Bool) → has (s .words) (g id) ≡ u → Marked (g id)
         go true e u f = record { level-bit = rw (mark-none e, e, same, or-false); collide-bit = rw (mark-none e, e) }
-        go false e true f = record { level-bit = rw (mark-again e f, f); collide-bit = rw (mark-again e f, e, f, same, with-here) }
-        go false e false f = record { level-bit = rw (mark-first e f, e, same, or-true, with-here); collide-bit = rw (mark-first e f, e, f, same) }
+        go false e true f = record {
+          level-bit = rw (mark-again e f, f);
+          collide-bit = rw (mark-again e f, e, f, same, put-here (with-put (s .collide) (g id)) collide-room);
+        }
+        go false e false f = record {
+          level-bit = rw (mark-first e f, e, same, or-true, put-here (with-put (s .words) (g id)) own-room);
+          collide-bit = rw (mark-first e f, e, f, same);
+        }
 
     marked-there : (j : ℕ) → j ≢ g id → Marked j
     marked-there j n = record { level-bit = rw (other, or-false) (same .0); collide-bit = rw (other, or-false) (same .1) }
@@ -79,8 +77,8 @@ module _ (g : ℕ → ℕ) (s : Stores) (id : ℕ) where
         same =
             mark-cases (λ t. (has (t .words) j ≡ has (s .words) j) × (has (t .collide) j ≡ has (s .collide) j))
             (refl, refl)
-            (refl, with-other (s .collide) (g id) collide-room j n)
-            (with-other (s .words) (g id) own-room j n, refl)
+            (refl, put-other (with-put (s .collide) (g id)) collide-room j n)
+            (put-other (with-put (s .words) (g id)) own-room j n, refl)
 
     pub marked : (j : ℕ) → Marked j
     marked j = elim (ℕ-discrete j (g id)) [ yes e ↦ rw e marked-here | no n ↦ marked-there j n ]
@@ -130,8 +128,8 @@ module _ (g : ℕ → ℕ) (size : ℕ) (within : (id : ℕ) → g id < size) wh
       let none = both-none size s in
       mark-cases g s id (Both size s)
       none
-      (record { own = none .own; other = kept-with size (s .collide) (g id) (within id) })
-      (record { own = kept-with size (s .words) (g id) (within id); other = none .other })
+      (record { own = none .own; other = kept-put size (with-put (s .collide) (g id)) (within id) })
+      (record { own = kept-put size (with-put (s .words) (g id)) (within id); other = none .other })
 
   pub mark-keeps : (s : Stores) (ids : List ℕ) → Both size s (markAll g s ids)
   mark-keeps s ids = fold-keeps (markOne g) (Both size s) (λ t id k. both-more size k (mark-one-keeps t id)) ids s (both-none size s)

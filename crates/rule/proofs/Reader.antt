@@ -35,6 +35,12 @@ module _ (pos : ℕ → ℕ → ℕ → ℕ) (span : ℕ → ℕ) (bits : ℕ �
       go (eq e) r = rw (e, t)
       go (gt h) r = absurd (omega arith)
 
+  -- no level has it
+  pub first-none : (n i x : ℕ) → ((m : ℕ) → m < i + n → bits m (pos m (span m) x) ≡ false) → first pos span bits n i x ≡ none
+  unfolding first
+  first-none zero i x f = refl
+  first-none (suc n) i x f = rw (f i (omega arith)) (first-none n (suc i) x (λ m h. f m (omega arith)))
+
   -- a level that is found has the bit, and is one of the n
   pub first-has : (n i j x : ℕ) → first pos span bits n i x ≡ some j → (bits j (pos j (span j) x) ≡ true) × (j < i + n)
   unfolding first

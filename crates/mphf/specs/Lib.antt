@@ -1,0 +1,5 @@
+pub mod Layout
+pub mod Fit
+pub mod Lookup
+pub mod Index
+pub mod Build

@@ -1,0 +1,5 @@
+pub mod Parts
+pub mod Ones
+pub mod Samples
+pub mod ByRule
+pub mod Rows
