@@ -1,6 +1,6 @@
 -- Filtering, bit by bit: of the positions that ids have, those that collide has leave the level; and the rest store as the loop compacts it. Assumes nothing.
 use mathlib.Core.Path.{_≡_, refl, sym, ap, _∙_}
-use mathlib.Core.Bool.{Bool, true, false, not, cond, _||_, _&&_, and-true, and-false}
+use mathlib.Core.Bool.{Bool, true, false, not, _||_, _&&_, and-true, and-false}
 use mathlib.Core.List.{List, [], _∷_, _++_, append-nil}
 use mathlib.Core.Logic.{_≢_}
 use Prim.Native.Nat.{ℕ, suc, _+_, _-_, _/_, _≤_, _<_}
@@ -14,11 +14,11 @@ use lib.Seq.{length-take-le, drop-cons, set-append-seam, getD-append-add, getD-d
 use Rattle.laws.specs.Counting.{hits, sift}
 use Rattle.laws.specs.Bits.{has, wordsFor, withoutBit}
 use Rattle.laws.proofs.Counts.{length-sift, tally-not, sift-take}
-use Rattle.laws.proofs.Words.{without-has, without-put}
+use Rattle.laws.proofs.Words.{without-put}
 use Rattle.level.specs.Level.{goesOn, filterOne, filterAll, fronted, OneFiltered, Filtered, met}
 use Rattle.level.proofs.Folds.{fold-next, fold-keeps}
 use Rattle.level.proofs.Few.{any-more}
-use Rattle.level.proofs.Kept.{Kept, kept-none, kept-more, kept-put}
+use Rattle.level.proofs.Kept.{Kept, kept-none, kept-more, kept-put, put-here, put-other}
 
 -- ---- one id
 
@@ -36,11 +36,11 @@ module _ (g : ℕ → ℕ) (collide ws : List ℕ) (id : ℕ) where
   filtered h j = elim (ℕ-discrete j (g id)) [ yes e ↦ rw e (here (goesOn g collide id) refl) | no n ↦ there n (goesOn g collide id) refl ]
     where
       here : (t : Bool) → goesOn g collide id ≡ t → has (filterOne g collide ws id) (g id) ≡ has ws (g id) && not (eqb (g id) (g id) && has collide (g id))
-      here true e = rw (filter-on e, without-has ws (g id) h (g id), e, eq-eqb (g id) (g id) refl, and-false)
+      here true e = rw (filter-on e, put-here (without-put ws (g id)) h, e, eq-eqb (g id) (g id) refl, and-false)
       here false e = rw (filter-off e, e, and-false, and-true)
 
       there : j ≢ g id → (t : Bool) → goesOn g collide id ≡ t → has (filterOne g collide ws id) j ≡ has ws j && not (eqb (g id) j && has collide j)
-      there n true e = rw (filter-on e, without-has ws (g id) h j, ne-eqb j (g id) n, ne-eqb (g id) j (λ q. n (sym q)), and-true)
+      there n true e = rw (filter-on e, put-other (without-put ws (g id)) h j n, ne-eqb (g id) j (λ q. n (sym q)), and-true)
       there n false e = rw (filter-off e, ne-eqb (g id) j (λ q. n (sym q)), and-true)
 
 -- ---- a list of ids
@@ -90,43 +90,42 @@ front-more front store x h =
 
 -- ---- the loop, after the first i ids of the rest store
 
-module _ (g : ℕ → ℕ) (collide ws store : List ℕ) where
-  pub filter-none : Filtered g collide ws (take 0 store) store 0 ws store
-  filter-none = record { words-are = refl; store-is = refl; count-is = refl }
+pub filter-none : (g : ℕ → ℕ) (collide ws store : List ℕ) → Filtered g collide 0 ws store 0 ws store
+filter-none g collide ws store = record { words-are = refl; store-is = refl; count-is = refl }
 
-  module _ (i : ℕ) {kept : ℕ} {ws₁ store₁ : List ℕ} (t : Filtered g collide ws (take i store) store kept ws₁ store₁) where
-    pub kept-le : i ≤ length store → kept ≤ i
-    kept-le h =
-        omega (arith, t .count-is, length-sift (goesOn g collide) (take i store), tally-not (goesOn g collide) (take i store), length-take-le i store h)
+module _ {g : ℕ → ℕ} {collide ws store : List ℕ} {i kept : ℕ} {ws₁ store₁ : List ℕ} (t : Filtered g collide i ws store kept ws₁ store₁) where
+  pub kept-le : i ≤ length store → kept ≤ i
+  kept-le h =
+      omega (arith, t .count-is, length-sift (goesOn g collide) (take i store), tally-not (goesOn g collide) (take i store), length-take-le i store h)
 
-    pub kept-length : i ≤ length store → length store₁ ≡ length store
-    kept-length h = rw (t .store-is, length-append, length-drop, ← (t .count-is)) (omega (arith, kept-le h))
+  pub kept-length : i ≤ length store → length store₁ ≡ length store
+  kept-length h = rw (t .store-is, length-append, length-drop, ← (t .count-is)) (omega (arith, kept-le h))
 
-    module _ (h : i < length store) {told : Bool} {ws₂ : List ℕ} (u : OneFiltered g collide ws₁ (getD store₁ i 0) told ws₂) where
-      -- the next id is still where it stood
-      next-id : getD store₁ i 0 ≡ getD store i 0
-      next-id = rw (t .store-is) (front-past (sift (goesOn g collide) (take i store)) store i (rw (← (t .count-is)) (kept-le (omega arith))))
+  module _ (h : i < length store) {told : Bool} {ws₂ : List ℕ} (u : OneFiltered g collide ws₁ (getD store₁ i 0) told ws₂) where
+    -- the next id is still where it stood
+    next-id : getD store₁ i 0 ≡ getD store i 0
+    next-id = rw (t .store-is) (front-past (sift (goesOn g collide) (take i store)) store i (rw (← (t .count-is)) (kept-le (omega arith))))
 
-      next-told : {b : Bool} → told ≡ b → goesOn g collide (getD store i 0) ≡ b
-      next-told e = rw next-id at (sym (u .on) ∙ e)
+    next-told : {b : Bool} → told ≡ b → goesOn g collide (getD store i 0) ≡ b
+    next-told e = rw next-id at (sym (u .on) ∙ e)
 
-      next-words : ws₂ ≡ filterAll g collide ws (take (i + 1) store)
-      next-words = u .words-are ∙ rw (t .words-are, next-id) (sym (fold-next (filterOne g collide) ws store i h))
+    next-words : ws₂ ≡ filterAll g collide ws (take (i + 1) store)
+    next-words = fold-next (filterOne g collide) ws store i h (t .words-are) (rw next-id at (u .words-are))
 
-      pub filter-out : told ≡ false → Filtered g collide ws (take (i + 1) store) store kept ws₂ store₁
-      filter-out e = record { words-are = next-words; store-is = rw same (t .store-is); count-is = rw same (t .count-is) }
-        where
-          same : sift (goesOn g collide) (take (i + 1) store) ≡ sift (goesOn g collide) (take i store)
-          same = rw (add-one i, sift-take (goesOn g collide) store i h, next-told e) (append-nil (sift (goesOn g collide) (take i store)))
+    pub filter-out : told ≡ false → Filtered g collide (i + 1) ws store kept ws₂ store₁
+    filter-out e = record { words-are = next-words; store-is = rw same (t .store-is); count-is = rw same (t .count-is) }
+      where
+        same : sift (goesOn g collide) (take (i + 1) store) ≡ sift (goesOn g collide) (take i store)
+        same = rw (add-one i, sift-take (goesOn g collide) store i h, next-told e) (append-nil (sift (goesOn g collide) (take i store)))
 
-      pub filter-in : told ≡ true → Filtered g collide ws (take (i + 1) store) store (kept + 1) ws₂ (set store₁ kept (getD store₁ i 0))
-      filter-in e = record {
-        words-are = next-words;
-        store-is =
-            rw (next-id, more, t .store-is, t .count-is)
-            (front-more (sift (goesOn g collide) (take i store)) store (getD store i 0) (rw (← (t .count-is)) (omega (arith, kept-le (omega arith)))));
-        count-is = rw (more, length-append, t .count-is);
-      }
-        where
-          more : sift (goesOn g collide) (take (i + 1) store) ≡ sift (goesOn g collide) (take i store) ++ (getD store i 0 ∷ [])
-          more = rw (add-one i, sift-take (goesOn g collide) store i h, next-told e)
+    pub filter-in : told ≡ true → Filtered g collide (i + 1) ws store (kept + 1) ws₂ (set store₁ kept (getD store₁ i 0))
+    filter-in e = record {
+      words-are = next-words;
+      store-is =
+          rw (next-id, more, t .store-is, t .count-is)
+          (front-more (sift (goesOn g collide) (take i store)) store (getD store i 0) (rw (← (t .count-is)) (omega (arith, kept-le (omega arith)))));
+      count-is = rw (more, length-append, t .count-is);
+    }
+      where
+        more : sift (goesOn g collide) (take (i + 1) store) ≡ sift (goesOn g collide) (take i store) ++ (getD store i 0 ∷ [])
+        more = rw (add-one i, sift-take (goesOn g collide) store i h, next-told e)

@@ -1,18 +1,20 @@
--- What a level keeps of a store while it changes bits below its size, and the store then from the bits that its needed words have. Assumes nothing.
+-- What changing bits below a size keeps of a store, and which store it leaves, from the bits that are then set. Assumes nothing.
 use mathlib.Core.Path.{_≡_, refl, sym, ap, _∙_}
 use mathlib.Core.Bool.{Bool, false}
 use mathlib.Core.List.{List, _++_}
 use Prim.Native.Nat.{ℕ, _*_, _/_, _%_, _^_, _≤_, _<_}
+use mathlib.Core.Logic.{_≢_}
 use native.Mathlib.Nat.{zero-div}
 use native.Mathlib.Omega.{arith}
-use lib.ListN.{length, getD, take, drop, getD-replicate}
+use borrow.Author.Tests.{eq-eqb, ne-eqb}
+use lib.ListN.{length, getD, drop, getD-replicate}
 use lib.Seq.{getD-take}
 use Rattle.laws.specs.Bits.{digit, has, Words, wordsFor, packed}
-use Rattle.laws.proofs.Words.{has-clear, Put, put-length, put-drop, put-words}
+use Rattle.laws.proofs.Words.{has-clear, Put, put-length, put-drop, put-words, put-has}
 use Rattle.laws.proofs.Packing.{packed-store}
 use Rattle.level.specs.Level.{Clear}
 
--- the words past those that the size needs are as they were, and there are as many
+-- there are as many words, those past the needed ones are as they were, and all are still words
 pub record Kept (size : ℕ) (ws us : List ℕ) : Type 0 where
   pub same-length : length us ≡ length ws
   pub past : drop (wordsFor size) us ≡ drop (wordsFor size) ws
@@ -33,10 +35,17 @@ module _ (size : ℕ) where
   pub kept-put : {ws us : List ℕ} {b : ℕ} {t : Bool} → Put ws b t us → b < size → Kept size ws us
   kept-put p h = record { same-length = put-length p; past = put-drop p (wordsFor size) (omega arith); still-words = put-words p }
 
-  -- the needed words hold a plain set where their bits are its numbers
+  -- where the bits of the needed words are the numbers of a plain set, they are that set packed
   pub holds : (s : ℕ → Bool) {ws us : List ℕ} → wordsFor size ≤ length ws → Words ws → Kept size ws us
       → ((b : ℕ) → b < 64 * wordsFor size → has us b ≡ s b) → us ≡ packed (wordsFor size) s ++ drop (wordsFor size) ws
   holds s {ws} {us} h f k e = packed-store (wordsFor size) s ws us (rw (k .same-length) h) (k .still-words f) (λ b l. sym (e b l)) (k .past)
+
+-- a bit put to t, at its place and at another
+pub put-here : {ws us : List ℕ} {b : ℕ} {t : Bool} → Put ws b t us → b / 64 < length ws → has us b ≡ t
+put-here {ws} {us} {b} p h = put-has p h b ∙ rw (eq-eqb b b refl)
+
+pub put-other : {ws us : List ℕ} {b : ℕ} {t : Bool} → Put ws b t us → b / 64 < length ws → (j : ℕ) → j ≢ b → has us j ≡ has ws j
+put-other {ws} {us} {b} p h j n = put-has p h j ∙ rw (ne-eqb j b n)
 
 -- words that are 0 have no bit
 pub clear-has : (n : ℕ) (ws : List ℕ) → Clear n ws → (b : ℕ) → b < 64 * n → has ws b ≡ false

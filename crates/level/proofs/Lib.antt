@@ -4,4 +4,3 @@ pub mod Kept
 pub mod Marking
 pub mod Filtering
 pub mod Placing
-pub mod Spots

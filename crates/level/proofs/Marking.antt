@@ -1,5 +1,5 @@
 -- Marking, bit by bit: the level has the positions that were met, collide those that were met again. Assumes nothing.
-use mathlib.Core.Path.{_≡_, refl, sym, ap₂, _∙_}
+use mathlib.Core.Path.{_≡_, refl, sym, _∙_}
 use mathlib.Core.Bool.{Bool, true, false, not, _||_, _&&_, or-false, or-true}
 use mathlib.Core.List.{List, [], _∷_, _++_, foldl-append}
 use Prim.Native.Nat.{ℕ, _+_, _*_, _/_, _≤_, _<_}
@@ -7,25 +7,16 @@ use mathlib.Core.Logic.{_≢_}
 use native.Mathlib.Nat.{add-zero, zero-add, add-assoc}
 use native.Mathlib.Decide.{ℕ-discrete}
 use native.Mathlib.Omega.{arith}
-use borrow.Author.Tests.{eq-eqb, ne-eqb, le-leb}
+use borrow.Author.Tests.{eq-eqb, ne-eqb}
 use lib.Dec.{eqb, leb}
 use lib.ListN.{length, drop}
 use Rattle.laws.specs.Counting.{one, hits}
 use Rattle.laws.specs.Bits.{has, Words, wordsFor, withBit, packed}
-use Rattle.laws.proofs.Cases.{Tri, lt, eq, gt, tri, eqb-both}
-use Rattle.laws.proofs.Words.{with-has, with-put}
+use Rattle.laws.proofs.Words.{with-put}
 use Rattle.level.specs.Level.{Clear, Stores, stores, markOne, markAll, met, shared}
 use Rattle.level.proofs.Folds.{fold-keeps}
 use Rattle.level.proofs.Few.{first-more, again-more}
-use Rattle.level.proofs.Kept.{Kept, kept-none, kept-more, kept-put, holds, clear-has}
-
--- ---- one bit more, at its place and at another
-
-with-here : (ws : List ℕ) (b : ℕ) → b / 64 < length ws → has (withBit ws b) b ≡ true
-with-here ws b h = with-has ws b h b ∙ rw (eq-eqb b b refl)
-
-with-other : (ws : List ℕ) (b : ℕ) → b / 64 < length ws → (j : ℕ) → j ≢ b → has (withBit ws b) j ≡ has ws j
-with-other ws b h j n = with-has ws b h j ∙ rw (ne-eqb j b n)
+use Rattle.level.proofs.Kept.{Kept, kept-none, kept-more, kept-put, holds, put-here, put-other, clear-has}
 
 -- ---- one id
 
@@ -44,7 +35,8 @@ module _ (g : ℕ → ℕ) (s : Stores) (id : ℕ) where
   mark-first e f = rw (e, f)
 
   -- what holds after each of them holds after marking
-  mark-cases : (P : Stores → Type 0) → P s → P (stores (s .words) (withBit (s .collide) (g id))) → P (stores (withBit (s .words) (g id)) (s .collide)) → P (markOne g s id)
+  mark-cases : (P : Stores → Type 0) → P s → P (stores (s .words) (withBit (s .collide) (g id))) → P (stores (withBit (s .words) (g id)) (s .collide))
+      → P (markOne g s id)
   mark-cases P none again first = go (has (s .collide) (g id)) refl (has (s .words) (g id)) refl
     where
       go : (t : Bool) → has (s .collide) (g id) ≡ t → (u : Bool) → has (s .words) (g id) ≡ u → P (markOne g s id)
@@ -66,8 +58,14 @@ module _ (g : ℕ → ℕ) (s : Stores) (id : ℕ) where
 
         go : (t : Bool) → has (s .collide) (g id) ≡ t → (u : Bool) → has (s .words) (g id) ≡ u → Marked (g id)
         go true e u f = record { level-bit = rw (mark-none e, e, same, or-false); collide-bit = rw (mark-none e, e) }
-        go false e true f = record { level-bit = rw (mark-again e f, f); collide-bit = rw (mark-again e f, e, f, same, with-here) }
-        go false e false f = record { level-bit = rw (mark-first e f, e, same, or-true, with-here); collide-bit = rw (mark-first e f, e, f, same) }
+        go false e true f = record {
+          level-bit = rw (mark-again e f, f);
+          collide-bit = rw (mark-again e f, e, f, same, put-here (with-put (s .collide) (g id)) collide-room);
+        }
+        go false e false f = record {
+          level-bit = rw (mark-first e f, e, same, or-true, put-here (with-put (s .words) (g id)) own-room);
+          collide-bit = rw (mark-first e f, e, f, same);
+        }
 
     marked-there : (j : ℕ) → j ≢ g id → Marked j
     marked-there j n = record { level-bit = rw (other, or-false) (same .0); collide-bit = rw (other, or-false) (same .1) }
@@ -79,25 +77,27 @@ module _ (g : ℕ → ℕ) (s : Stores) (id : ℕ) where
         same =
             mark-cases (λ t. (has (t .words) j ≡ has (s .words) j) × (has (t .collide) j ≡ has (s .collide) j))
             (refl, refl)
-            (refl, with-other (s .collide) (g id) collide-room j n)
-            (with-other (s .words) (g id) own-room j n, refl)
+            (refl, put-other (with-put (s .collide) (g id)) collide-room j n)
+            (put-other (with-put (s .words) (g id)) own-room j n, refl)
 
     pub marked : (j : ℕ) → Marked j
     marked j = elim (ℕ-discrete j (g id)) [ yes e ↦ rw e marked-here | no n ↦ marked-there j n ]
 
--- ---- a list of ids
+-- ---- what both stores have, and keep
 
--- bit j of the stores where so many ids have that position
-pub record Met (j n : ℕ) (s : Stores) : Type 0 where
-  pub level-bit : has (s .words) j ≡ leb 1 n
-  pub collide-bit : has (s .collide) j ≡ leb 2 n
-
--- the stores have the words that the size needs
+-- room for the words that the size needs
 pub record Room (size : ℕ) (s : Stores) : Type 0 where
   pub own : wordsFor size ≤ length (s .words)
   pub other : wordsFor size ≤ length (s .collide)
 
--- and what both keep
+-- what a level begins with: room, and needed words that are 0
+pub record Fresh (size : ℕ) (s : Stores) : Type 0 where
+  pub room : Room size s
+  pub own-clear : Clear (wordsFor size) (s .words)
+  pub other-clear : Clear (wordsFor size) (s .collide)
+  pub own-words : Words (s .words)
+  pub other-words : Words (s .collide)
+
 pub record Both (size : ℕ) (s t : Stores) : Type 0 where
   pub own : Kept size (s .words) (t .words)
   pub other : Kept size (s .collide) (t .collide)
@@ -111,6 +111,17 @@ both-more size k l = record { own = kept-more size (k .own) (l .own); other = ke
 pub still-room : (size : ℕ) {s t : Stores} → Both size s t → Room size s → Room size t
 still-room size k r = record { own = rw (k .own .same-length) (r .own); other = rw (k .other .same-length) (r .other) }
 
+-- ---- a list of ids
+
+-- ids in two lists: the second after the first
+pub mark-append : (g : ℕ → ℕ) (s : Stores) (xs ys : List ℕ) → markAll g s (xs ++ ys) ≡ markAll g (markAll g s xs) ys
+mark-append g s xs ys = foldl-append (markOne g) s xs ys
+
+-- bit j of the stores, where n of the ids have that position
+pub record Met (j n : ℕ) (s : Stores) : Type 0 where
+  pub level-bit : has (s .words) j ≡ leb 1 n
+  pub collide-bit : has (s .collide) j ≡ leb 2 n
+
 module _ (g : ℕ → ℕ) (size : ℕ) (within : (id : ℕ) → g id < size) where
   pub mark-one-keeps : (s : Stores) (id : ℕ) → Both size s (markOne g s id)
   mark-one-keeps s id =
@@ -123,6 +134,7 @@ module _ (g : ℕ → ℕ) (size : ℕ) (within : (id : ℕ) → g id < size) wh
   pub mark-keeps : (s : Stores) (ids : List ℕ) → Both size s (markAll g s ids)
   mark-keeps s ids = fold-keeps (markOne g) (Both size s) (λ t id k. both-more size k (mark-one-keeps t id)) ids s (both-none size s)
 
+  -- one id more, and a list of them
   pub met-one : (j n : ℕ) (s : Stores) (id : ℕ) → Room size s → Met j n s → Met j (n + one (eqb (g id) j)) (markOne g s id)
   met-one j n s id r m =
       let h = marked g s id (omega (arith, within id, r .own)) (omega (arith, within id, r .other)) j in
@@ -137,21 +149,18 @@ module _ (g : ℕ → ℕ) (size : ℕ) (within : (id : ℕ) → g id < size) wh
       rw (← (add-assoc n (one (eqb (g id) j)) (hits g j ids)))
       (met-all j (n + one (eqb (g id) j)) (markOne g s id) ids (still-room size (mark-one-keeps s id) r) (met-one j n s id r m))
 
-  -- from words that are 0: what was met, and what was met again
-  module _ (s : Stores) (r : Room size s) (z : Clear (wordsFor size) (s .words)) (y : Clear (wordsFor size) (s .collide)) where
-    pub marked-bits : (ids : List ℕ) (j : ℕ) → j < 64 * wordsFor size → Met j (hits g j ids) (markAll g s ids)
-    marked-bits ids j h =
-        rw (zero-add (hits g j ids)) at
-        (met-all j 0 s ids r (record { level-bit = clear-has (wordsFor size) (s .words) z j h; collide-bit = clear-has (wordsFor size) (s .collide) y j h }))
+  -- from words that are 0: the level has what was met, collide what was met again
+  module _ (s : Stores) (fresh : Fresh size s) (ids : List ℕ) where
+    pub marked-bits : (j : ℕ) → j < 64 * wordsFor size → Met j (hits g j ids) (markAll g s ids)
+    marked-bits j h =
+        let none : Met j 0 s = record {
+          level-bit = clear-has (wordsFor size) (s .words) (fresh .own-clear) j h;
+          collide-bit = clear-has (wordsFor size) (s .collide) (fresh .other-clear) j h;
+        } in
+        rw (zero-add (hits g j ids)) at (met-all j 0 s ids (fresh .room) none)
 
-    pub marked-words : Words (s .words) → Words (s .collide) → (ids : List ℕ) → markAll g s ids
-        ≡ stores (packed (wordsFor size) (met g ids) ++ drop (wordsFor size) (s .words)) (packed (wordsFor size) (shared g ids) ++ drop (wordsFor size) (s .collide))
-    marked-words f e ids =
-        let k = mark-keeps s ids in
-        ap₂ stores
-        (holds size (met g ids) (r .own) f (k .own) (λ j h. marked-bits ids j h .level-bit))
-        (holds size (shared g ids) (r .other) e (k .other) (λ j h. marked-bits ids j h .collide-bit))
+    pub marked-own : markAll g s ids .words ≡ packed (wordsFor size) (met g ids) ++ drop (wordsFor size) (s .words)
+    marked-own = holds size (met g ids) (fresh .room .own) (fresh .own-words) (mark-keeps s ids .own) (λ j h. marked-bits j h .level-bit)
 
--- ids in two lists: the second after the first
-pub mark-append : (g : ℕ → ℕ) (s : Stores) (xs ys : List ℕ) → markAll g s (xs ++ ys) ≡ markAll g (markAll g s xs) ys
-mark-append g s xs ys = foldl-append (markOne g) s xs ys
+    pub marked-collide : markAll g s ids .collide ≡ packed (wordsFor size) (shared g ids) ++ drop (wordsFor size) (s .collide)
+    marked-collide = holds size (shared g ids) (fresh .room .other) (fresh .other-words) (mark-keeps s ids .other) (λ j h. marked-bits j h .collide-bit)

@@ -68,11 +68,11 @@ pub record OneFiltered (g : ℕ → ℕ) (collide words : List ℕ) (id : ℕ) (
   pub on : told ≡ goesOn g collide id
   pub words-are : words′ ≡ filterOne g collide words id
 
--- what filtering the ids at the front of the rest store tells and leaves: those that go on stand at its front, in their order
-pub record Filtered (g : ℕ → ℕ) (collide words ids store : List ℕ) (told : ℕ) (words′ store′ : List ℕ) : Type 0 where
-  pub words-are : words′ ≡ filterAll g collide words ids
-  pub store-is : store′ ≡ fronted (sift (goesOn g collide) ids) store
-  pub count-is : told ≡ length (sift (goesOn g collide) ids)
+-- what filtering the first `count` ids of the rest store tells and leaves: those that go on stand at its front, in their order
+pub record Filtered (g : ℕ → ℕ) (collide : List ℕ) (count : ℕ) (words store : List ℕ) (told : ℕ) (words′ store′ : List ℕ) : Type 0 where
+  pub words-are : words′ ≡ filterAll g collide words (take count store)
+  pub store-is : store′ ≡ fronted (sift (goesOn g collide) (take count store)) store
+  pub count-is : told ≡ length (sift (goesOn g collide) (take count store))
 
 -- ---- the whole level
 
@@ -83,10 +83,10 @@ met g ids p = leb 1 (hits g p ids)
 abbrev pub shared : (ℕ → ℕ) → List ℕ → ℕ → Bool
 shared g ids p = leb 2 (hits g p ids)
 
--- What a level leaves in words that were 0. Its bits are the positions that exactly one id has, collide's those that two or more have; the ids that go on stand
--- at the front of the rest store, and their number is told.
-pub record Placed (g : ℕ → ℕ) (size : ℕ) (ids words collide store : List ℕ) (told : ℕ) (words′ collide′ store′ : List ℕ) : Type 0 where
-  pub words-are : words′ ≡ packed (wordsFor size) (single g ids) ++ drop (wordsFor size) words
-  pub collide-is : collide′ ≡ packed (wordsFor size) (shared g ids) ++ drop (wordsFor size) collide
-  pub store-is : store′ ≡ fronted (rest g ids) store
-  pub count-is : told ≡ length (rest g ids)
+-- What a level leaves in words that were 0, for the first `count` ids of the rest store. Its bits are the positions that exactly one of them has, and collide's
+-- those that two or more have; the ids that go on stand at the front of the rest store, and their number is told. All else is as it was.
+pub record Placed (g : ℕ → ℕ) (size count : ℕ) (words collide store : List ℕ) (told : ℕ) (words′ collide′ store′ : List ℕ) : Type 0 where
+  pub words-are : words′ ≡ packed (wordsFor size) (single g (take count store)) ++ drop (wordsFor size) words
+  pub collide-is : collide′ ≡ packed (wordsFor size) (shared g (take count store)) ++ drop (wordsFor size) collide
+  pub store-is : store′ ≡ fronted (rest g (take count store)) store
+  pub count-is : told ≡ length (rest g (take count store))

@@ -1,8 +1,8 @@
-// One level of a build (01's module 4; boomphf's `Context`): the ids that come to it are marked, those whose position is shared are filtered out and go on.
-// It works in lent words that start at the level, and in collide's first words. An id has one bit: its position at this level, among `size`.
+// One level of a build (01's module 4, boomphf's `Context`): the ids that come to it are marked, then those whose position is shared are filtered out and go
+// on. It works in lent words that start at the level and in the first words of collide. An id's bit is its position among the `size` bits of the level.
 ghost use mathlib.Core.Path.{_≡_};
 ghost use Prim.Native.Nat.{_≤_};
-ghost use lib.ListN.{length, take};
+ghost use lib.ListN.{length};
 ghost use Rattle.laws.specs.Bits.{wordsFor};
 ghost use Rattle.mixer.specs.Position.{position};
 ghost use Rattle.level.specs.Level.{Ready, Clear, stores, markOne, markAll, OneFiltered, Filtered, Placed};
@@ -14,7 +14,8 @@ use mixer::hashmod;
 // Marks one id: its bit is set in the level where it is met first, in collide where it is met again.
 pub fn mark_one(level: u64, size: u64, id: u64, words: &mut [u64], collide: &mut [u64])
     requires { ⌜ Ready size (now words) (now collide) ⌝ }
-    ensures { λ _. ⌜ stores (now (words .exit)) (now (collide .exit)) ≡ markOne (position level size) (stores (now (words .entry)) (now (collide .entry))) id ⌝ }
+    ensures { λ _. ⌜ stores (now (words .exit)) (now (collide .exit))
+        ≡ markOne (position level size) (stores (now (words .entry)) (now (collide .entry))) id ⌝ }
 {
     let bit = hashmod(level, id, size);
     if !has_bit(collide, bit) && add_bit(words, bit) {
@@ -25,7 +26,8 @@ pub fn mark_one(level: u64, size: u64, id: u64, words: &mut [u64], collide: &mut
 // Marks each id.
 pub fn mark(level: u64, size: u64, ids: &[u64], words: &mut [u64], collide: &mut [u64])
     requires { ⌜ Ready size (now words) (now collide) ⌝ }
-    ensures { λ _. ⌜ stores (now (words .exit)) (now (collide .exit)) ≡ markAll (position level size) (stores (now (words .entry)) (now (collide .entry))) (now (ids .entry)) ⌝ }
+    ensures { λ _. ⌜ stores (now (words .exit)) (now (collide .exit))
+        ≡ markAll (position level size) (stores (now (words .entry)) (now (collide .entry))) (now (ids .entry)) ⌝ }
 {
     for i in 0..ids.len() {
         mark_one(level, size, ids[i], words, collide);
@@ -45,7 +47,7 @@ pub fn filter_one(level: u64, size: u64, id: u64, words: &mut [u64], collide: &[
     false
 }
 
-// Filters the first `count` ids of the rest store; those that go on move to its front, and their number is answered.
+// Filters the first `count` ids of the rest store. Those that go on move to its front, in order; their number is answered.
 pub fn filter(
     level: u64,
     size: u64,
@@ -55,7 +57,8 @@ pub fn filter(
     collide: &[u64],
 ) -> usize
     requires { ⌜ Ready size (now words) (now collide) × (count ≤ length (now rest)) ⌝ }
-    ensures { λ r. ⌜ Filtered (position level size) (now (collide .entry)) (now (words .entry)) (take count (now (rest .entry))) (now (rest .entry)) r (now (words .exit)) (now (rest .exit)) ⌝ }
+    ensures { λ r. ⌜ Filtered (position level size) (now (collide .entry)) count (now (words .entry)) (now (rest .entry))
+        r (now (words .exit)) (now (rest .exit)) ⌝ }
 {
     let mut kept: usize = 0;
     for i in 0..count {
@@ -68,7 +71,7 @@ pub fn filter(
     kept
 }
 
-// The whole level, for the first `count` ids of the rest store.
+// The whole level, for the first `count` ids of the rest store. How many go on is answered.
 pub fn place(
     level: u64,
     size: u64,
@@ -77,8 +80,10 @@ pub fn place(
     words: &mut [u64],
     collide: &mut [u64],
 ) -> usize
-    requires { ⌜ Ready size (now words) (now collide) × (count ≤ length (now rest)) × Clear (wordsFor size) (now words) × Clear (wordsFor size) (now collide) ⌝ }
-    ensures { λ r. ⌜ Placed (position level size) size (take count (now (rest .entry))) (now (words .entry)) (now (collide .entry)) (now (rest .entry)) r (now (words .exit)) (now (collide .exit)) (now (rest .exit)) ⌝ }
+    requires { ⌜ Ready size (now words) (now collide) × (count ≤ length (now rest))
+        × Clear (wordsFor size) (now words) × Clear (wordsFor size) (now collide) ⌝ }
+    ensures { λ r. ⌜ Placed (position level size) size count (now (words .entry)) (now (collide .entry)) (now (rest .entry))
+        r (now (words .exit)) (now (collide .exit)) (now (rest .exit)) ⌝ }
 {
     mark(level, size, &rest[..count], words, collide);
     filter(level, size, count, rest, words, collide)

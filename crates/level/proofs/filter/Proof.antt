@@ -1,10 +1,10 @@
 -- `level::filter` meets its contract. The loop's invariant: the ids before `i` are filtered. Assumes nothing.
-use mathlib.Core.Path.{_≡_, refl, _∙_}
+use mathlib.Core.Path.{_≡_, refl}
 use mathlib.Core.Logic.{⊎-elim}
 use Prim.Native.Nat.{_-_, _≤_}
 use native.Mathlib.Omega.{arith}
 use borrow.Author.Needs.{needs}
-use lib.ListN.{length, take}
+use lib.ListN.{length}
 use Rattle.mixer.specs.Position.{position}
 use Rattle.level.specs.Level.{Filtered}
 use Rattle.level.proofs.Filtering.{filter-none, kept-le, kept-length, filter-out, filter-in}
@@ -13,7 +13,7 @@ use Rattle.level.proofs.filter.Tie as tie
 
 abbrev Inv-loop : tie.InvT-loop
 Inv-loop level size count rest₀ words₀ collide kept₀ i₀ rest words kept i =
-    (i ≤ count) × (count ≤ length rest₀) × (length words ≡ length words₀) × Filtered (position level size) collide words₀ (take i rest₀) rest₀ kept words rest
+    (i ≤ count) × (count ≤ length rest₀) × (length words ≡ length words₀) × Filtered (position level size) collide i words₀ rest₀ kept words rest
 
 abbrev μ-loop : tie.MeasureT-loop
 μ-loop level size count rest₀ words₀ collide kept₀ i₀ rest words kept i = count - i
@@ -26,31 +26,27 @@ filter-spec =
     μ-loop
     (λ c. (search needs, search needs, refl, filter-none _ _ _ _))
     (λ c. search needs)
-    (λ c. omega (arith, kept-length _ _ _ _ (c .before .before .loop .i) (c .before .before .loop .inv .3) (omega arith)))
+    (λ c. omega (arith, kept-length (c .before .before .loop .inv .3) (omega arith)))
     (λ c κs. search needs)
+    (λ c. omega (arith, kept-le (c .before .before .before .before .before .before .before .loop .inv .3) (omega arith)))
     (λ c.
-    let h = c .before .before .before .before .before .before .before in
-    omega (arith, kept-le _ _ _ _ (h .loop .i) (h .loop .inv .3) (omega arith)))
-    (λ c.
-    let h = c .before .before .before .before .before .before .before in
-    omega (arith, kept-le _ _ _ _ (h .loop .i) (h .loop .inv .3) (omega arith), kept-length _ _ _ _ (h .loop .i) (h .loop .inv .3) (omega arith)))
-    (λ c.
-    let h = c .before .before .before .before .before .before .before in
-    omega (arith, kept-le _ _ _ _ (h .loop .i) (h .loop .inv .3) (omega arith)))
+    let t = c .before .before .before .before .before .before .before .loop .inv .3 in
+    omega (arith, kept-le t (omega arith), kept-length t (omega arith)))
+    (λ c. omega (arith, kept-le (c .before .before .before .before .before .before .before .loop .inv .3) (omega arith)))
     (λ c. search needs)
     (λ c. search needs)
     (λ c.
-    let h = c .before .before .before .before .before .before .before in
+    let t = c .before .before .before .before .before .before .before .loop .inv .3 in
     let u = c .before .before .before .filter-one .ensures in (
       omega arith,
       omega arith,
       omega arith,
       ⊎-elim
-          (λ w. rw (w .1, w .2) (filter-in _ _ _ _ (h .loop .i) (h .loop .inv .3) (omega arith) u (w .0 .taken)))
-          (λ w. rw (w .1, w .2) (filter-out _ _ _ _ (h .loop .i) (h .loop .inv .3) (omega arith) u (w .0 .left)))
+          (λ w. rw (w .1, w .2) (filter-in t (omega arith) u (w .0 .taken)))
+          (λ w. rw (w .1, w .2) (filter-out t (omega arith) u (w .0 .left)))
           (c .if1 .came),
     ))
-    (λ c. kept-length _ _ _ _ (c .before .loop .i) (c .before .loop .inv .3) (omega arith))
+    (λ c. kept-length (c .before .loop .inv .3) (omega arith))
     (λ c. search needs)
     (λ c.
     let e : c .before .loop .i ≡ c .before .before .before .before .before .args .count = omega arith in

@@ -1,8 +1,9 @@
 -- `level::filter_one` meets its contract. Assumes nothing.
 use mathlib.Core.Path.{sym, _∙_}
+use native.Mathlib.Omega.{arith}
 use borrow.Author.Needs.{needs}
+use Rattle.mixer.proofs.Positions.{position-lt}
 use Rattle.level.proofs.Filtering.{filter-on, filter-off}
-use Rattle.level.proofs.Spots.{own-word, collide-word}
 use Rattle.level.proofs.filter_one.Statement.{statement}
 use Rattle.level.proofs.filter_one.Tie as tie
 
@@ -11,8 +12,10 @@ filter-one-spec =
     tie.close
     (tie.spec
     (λ c κs. search needs)
-    (λ c κs. collide-word _ _ (c .before .before .before .pre) (c .hashmod .ensures))
-    (λ c κs. own-word _ _ (c .before .before .before .before .before .before .pre) (c .before .before .before .hashmod .ensures))
+    (λ c κs. let s = c .before .before .before in omega (arith, position-lt (s .args .level) (s .args .size) (s .args .id) (s .pre .positive)))
+    (λ c κs.
+    let s = c .before .before .before .before .before .before in
+    omega (arith, position-lt (s .args .level) (s .args .size) (s .args .id) (s .pre .positive)))
     (λ c. search needs)
     (λ c.
     let bit = c .before .before .before .before .before .before .hashmod .ensures in

@@ -1,12 +1,12 @@
 -- `level::mark` meets its contract. The loop's invariant: the ids before `i` are marked. Assumes nothing.
-use mathlib.Core.Path.{_≡_, refl, sym, ap, _∙_}
+use mathlib.Core.Path.{_≡_, refl, _∙_}
 use Prim.Native.Nat.{_-_, _≤_}
 use native.Mathlib.Omega.{arith}
 use borrow.Author.Needs.{needs}
 use lib.ListN.{length, take}
 use lib.Seq.{take-all}
 use Rattle.mixer.specs.Position.{position}
-use Rattle.level.specs.Level.{Ready, stores, markOne, markAll}
+use Rattle.level.specs.Level.{stores, markOne, markAll}
 use Rattle.level.proofs.Folds.{fold-next}
 use Rattle.level.proofs.mark.Statement.{statement}
 use Rattle.level.proofs.mark.Tie as tie
@@ -37,8 +37,7 @@ mark-spec =
       omega arith,
       omega arith,
       omega arith,
-      c .before .before .before .before .mark-one .ensures ∙ rw (h .loop .inv .4)
-          (sym (fold-next (markOne (position (h .before .before .before .before .args .level) (h .before .before .before .before .args .size))) _ (h .before .before .before .before .args .ids .now) (h .loop .i) (omega arith))),
+      fold-next (markOne _) _ _ (h .loop .i) (omega arith) (h .loop .inv .4) (c .before .before .before .before .mark-one .ensures),
     ))
     (λ c. search needs)
     (λ c. search needs)

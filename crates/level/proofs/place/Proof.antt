@@ -1,9 +1,7 @@
 -- `level::place` meets its contract. Assumes nothing.
 use mathlib.Core.Path.{sym}
 use borrow.Author.Needs.{needs}
-use lib.ListN.{take}
 use lib.Seq.{length-take-le}
-use Rattle.mixer.specs.Position.{position}
 use Rattle.mixer.proofs.Positions.{position-lt}
 use Rattle.level.specs.Level.{stores}
 use Rattle.level.proofs.Placing.{placed}
@@ -24,10 +22,12 @@ place-spec =
     (λ c.
     let m = c .before .before .before .before .before .before .before .before .before .before .before .before in
     let s = m .before .before .before .before .before .before .before in
-    let a = s .args in
-    placed (position (a .level) (a .size)) (a .size) (λ id. position-lt (a .level) (a .size) id (s .pre .0 .positive)) (stores (a .words .now) (a .collide .now))
-    (record { own = s .pre .0 .own-room; other = s .pre .0 .collide-room }) (s .pre .2) (s .pre .3) (take (a .count) (a .rest .now))
-    (λ i. m .before .before .before .before .before .slice-known2 .given i .fits)
-    (λ i. m .before .before .before .before .slice-known3 .given i .fits)
-    (m .mark .ensures)
-    (c .before .before .before .before .filter .ensures)))
+    placed _ _ (λ id. position-lt (s .args .level) (s .args .size) id (s .pre .0 .positive)) (stores _ _)
+    (record {
+      room = record { own = s .pre .0 .own-room; other = s .pre .0 .collide-room };
+      own-clear = s .pre .2;
+      other-clear = s .pre .3;
+      own-words = λ i. m .before .before .before .before .before .slice-known2 .given i .fits;
+      other-words = λ i. m .before .before .before .before .slice-known3 .given i .fits;
+    })
+    _ _ (m .mark .ensures) (c .before .before .before .before .filter .ensures)))
