@@ -4,5 +4,6 @@ pub mod Sizes
 pub mod Fills
 pub mod Rising
 pub mod Agreement
+pub mod Joining
 pub mod Unique
 pub mod Rows
