@@ -1,7 +1,7 @@
 -- The bits of two lists of words in one, word by word: what `insert_all` does. Assumes nothing.
 use mathlib.Core.Path.{_≡_, refl, sym, ap₂, _∙_}
 use mathlib.Core.Bool.{Bool, true, false, not, _||_, _&&_}
-use mathlib.Core.List.{List, _++_, append-assoc}
+use mathlib.Core.List.{List, append-assoc}
 use Prim.Native.Nat.{ℕ, suc, _+_, _*_, _^_, _≤_, _<_}
 use native.Mathlib.Numerals.{add-one}
 use native.Mathlib.Omega.{arith}
@@ -45,8 +45,12 @@ module _ (ws us xs : List ℕ) (i : ℕ) (new : Bool) (l : i < length ws) (j : J
       let w : ℕ = wordOf (has ws) i in
       rw or-word
       (record {
-        new = rw (same-next (has ws) s i, j .new, ← own-word, eqb-both (wordOf s i) w w (wordOf s i) sym sym) (not-and (sameBelow (has ws) s (64 * i)) (eqb w (wordOf s i)));
-        words = rw (j .words, add-one i, packed-suc i s, append-assoc, drop-cons ws i 0 l) (set-at (packed i s) (getD ws i 0) (drop (suc i) ws) (wordOf s i) i (length-packed i s));
+        new =
+            rw (same-next (has ws) s i, j .new, ← own-word, eqb-both (wordOf s i) w w (wordOf s i) sym sym)
+            (not-and (sameBelow (has ws) s (64 * i)) (eqb w (wordOf s i)));
+        words =
+            rw (j .words, add-one i, packed-suc i s, append-assoc, drop-cons ws i 0 l)
+            (set-at (packed i s) (getD ws i 0) (drop (suc i) ws) (wordOf s i) i (length-packed i s));
       })
 
 -- ---- the call

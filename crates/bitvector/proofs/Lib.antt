@@ -5,5 +5,6 @@ pub mod Fills
 pub mod Rising
 pub mod Agreement
 pub mod Joining
+pub mod Again
 pub mod Unique
 pub mod Rows

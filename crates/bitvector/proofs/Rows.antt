@@ -5,7 +5,8 @@ use mathlib.Core.List.{List, [], _∷_}
 use lib.Dec.{T, eqb}
 use Rattle.laws.specs.Bits.{bitAt, has, packed}
 use Rattle.bitvector.specs.Sets.{stored}
-use Rattle.bitvector.specs.Calls.{Outcome, roomy, sound, newCall, onesCall, isEmptyCall, lenCall, containsCall, insertCall, removeCall, insertAllCall, eqLeftCall, membersCall}
+use Rattle.bitvector.specs.Calls.{Outcome, roomy, sound, newCall, onesCall, isEmptyCall, lenCall}
+use Rattle.bitvector.specs.Calls.{containsCall, insertCall, removeCall, insertAllCall, eqLeftCall, membersCall}
 
 abbrev same : List ℕ → List ℕ → Bool
 same [] [] = true

@@ -6,9 +6,9 @@ use Prim.Native.Nat.{ℕ, _*_, _/_, _<_}
 use native.Mathlib.Omega.{arith}
 use borrow.Author.Tests.{lt-ltb}
 use lib.Dec.{eqb}
-use lib.ListN.{length, drop, take-append-drop}
+use lib.ListN.{length, take, take-append-drop}
 use Rattle.laws.specs.Counting.{one}
-use Rattle.laws.specs.Bits.{has, Words, wordsFor, withBit, withoutBit}
+use Rattle.laws.specs.Bits.{has, Words, wordsFor, withBit, withoutBit, packed}
 use Rattle.laws.proofs.Words.{Put, with-put, without-put, put-length, put-drop, put-words, put-has}
 use Rattle.laws.proofs.Packing.{packed-below, packed-take}
 use Rattle.bitvector.specs.Sets.{Plain, plus, minus, setOf, stored}
@@ -27,8 +27,8 @@ module _ (capacity : ℕ) (ws : List ℕ) (bit : ℕ) (s : sound capacity ws ≡
       let n : ℕ = wordsFor capacity in
       let held : (b : ℕ) → b < 64 * n → act b ≡ has us b =
       λ b l. e b ∙ ap (λ (x : Bool). cond (eqb b bit) t x) (set-bits capacity ws s b l) ∙ sym (put-has p bit-word b) in
-      sym (ap₂ (λ (x y : List ℕ). x ++ y) (packed-below n act (has us) held ∙ packed-take n us (rw (put-length p) (r .words)) (put-words p f)) (sym (put-drop p n (omega arith)))
-      ∙ take-append-drop n us)
+      let needed : packed n act ≡ take n us = packed-below n act (has us) held ∙ packed-take n us (rw (put-length p) (r .words)) (put-words p f) in
+      sym (ap₂ (λ (x y : List ℕ). x ++ y) needed (sym (put-drop p n (omega arith))) ∙ take-append-drop n us)
 
   pub contained : answered (one (has ws bit)) ws ≡ containsCall capacity ws bit
   contained = rw (s, lt-ltb _ _ h)
@@ -36,7 +36,8 @@ module _ (capacity : ℕ) (ws : List ℕ) (bit : ℕ) (s : sound capacity ws ≡
   pub inserted : Words ws → answered (one (not (has ws bit))) (withBit ws bit) ≡ insertCall capacity ws bit
   inserted f =
       rw (s, lt-ltb _ _ h)
-      (ap (answered (one (not (has ws bit)))) (put-stored true (withBit ws bit) (plus (setOf capacity ws) bit) (with-put ws bit) f (λ b. go (eqb b bit) (setOf capacity ws b))))
+      (ap (answered (one (not (has ws bit))))
+      (put-stored true (withBit ws bit) (plus (setOf capacity ws) bit) (with-put ws bit) f (λ b. go (eqb b bit) (setOf capacity ws b))))
     where
       go : (q x : Bool) → q || x ≡ cond q true x
       go true x = refl
@@ -45,7 +46,8 @@ module _ (capacity : ℕ) (ws : List ℕ) (bit : ℕ) (s : sound capacity ws ≡
   pub removed : Words ws → answered (one (has ws bit)) (withoutBit ws bit) ≡ removeCall capacity ws bit
   removed f =
       rw (s, lt-ltb _ _ h)
-      (ap (answered (one (has ws bit))) (put-stored false (withoutBit ws bit) (minus (setOf capacity ws) bit) (without-put ws bit) f (λ b. go (eqb b bit) (setOf capacity ws b))))
+      (ap (answered (one (has ws bit)))
+      (put-stored false (withoutBit ws bit) (minus (setOf capacity ws) bit) (without-put ws bit) f (λ b. go (eqb b bit) (setOf capacity ws b))))
     where
       go : (q x : Bool) → not q && x ≡ cond q false x
       go true x = refl

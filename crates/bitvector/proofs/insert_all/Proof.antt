@@ -25,8 +25,9 @@ insert-all-spec =
     rw (s, t, ne-eqb _ _ (c .if3 .taken)))
     (λ c κs. sound-room _ _ (passed (c .before .before .before .before .before .is-sound .ensures) (c .before .before .before .before .if1 .left)) .bound)
     (λ c κs.
-    let s = sound-room _ _ (passed (c .before .before .before .before .before .before .is-sound .ensures) (c .before .before .before .before .before .if1 .left)) in
-    let t = sound-room _ _ (passed (c .before .before .before .before .is-sound2 .ensures) (c .before .before .before .if2 .left)) in
+    let e = c .before .before in
+    let s = sound-room _ _ (passed (e .before .before .before .before .is-sound .ensures) (e .before .before .before .if1 .left)) in
+    let t = sound-room _ _ (passed (e .before .before .is-sound2 .ensures) (e .before .if2 .left)) in
     omega arith)
     (λ c κs. search needs)
     (λ c. search needs)
