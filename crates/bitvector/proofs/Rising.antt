@@ -48,8 +48,9 @@ places-pop base w h n =
     blocks-none (place base v) (suc t) (λ k l. no-place base v k (below k l)) in
     let above : blocks (λ k. place base w (suc t + k)) m ≡ blocks (λ k. place base v (suc t + k)) m =
     blocks-same _ _ m (λ k l. ap (λ (d : ℕ). cond (eqb d 1) ((base + (suc t + k)) ∷ []) []) (sym (down-other w t (suc t + k) (low .set) (omega arith)))) in
-    ap (blocks (place base w)) e ∙ blocks-split (place base w) (suc t) m ∙ ap₂ (λ (x y : List ℕ). x ++ y) here above
-    ∙ ap (λ (l : List ℕ). (base + t) ∷ l) (ap (λ (l : List ℕ). l ++ blocks (λ k. place base v (suc t + k)) m) (sym gone) ∙ sym (blocks-split (place base v) (suc t) m) ∙ ap (blocks (place base v)) (sym e))
+    let rest : blocks (place base v) 64 ≡ blocks (λ k. place base v (suc t + k)) m =
+    ap (blocks (place base v)) e ∙ blocks-split (place base v) (suc t) m ∙ ap (λ (l : List ℕ). l ++ blocks (λ k. place base v (suc t + k)) m) gone in
+    ap (blocks (place base w)) e ∙ blocks-split (place base w) (suc t) m ∙ ap₂ (λ (x y : List ℕ). x ++ y) here (above ∙ sym rest)
   where
     below : (k : ℕ) → k < suc (trailingZeros 64 w) → digit (w - 2 ^ trailingZeros 64 w) k ≡ 0
     below k l =
@@ -110,12 +111,14 @@ rising-next ws i =
     let member : ℕ → List ℕ = λ b. cond (has ws b) (b ∷ []) [] in
     ap (blocks member) e ∙ blocks-split member (64 * i) 64
     ∙ ap (λ (l : List ℕ). rising (has ws) (64 * i) ++ l)
-    (blocks-same _ _ 64
-    (λ k l. ap₂ (λ (t : Bool) (b : ℕ). cond t (b ∷ []) []) (set-digit (has ws (64 * i + k)) ∙ ap (λ (d : ℕ). eqb d 1) (has-digit ws i k l)) (ap (λ (b : ℕ). b + k) (mul-comm 64 i))))
+    (blocks-same _ _ 64 (λ k l. ap₂ (λ (t : Bool) (b : ℕ). cond t (b ∷ []) []) (test k l) (ap (λ (b : ℕ). b + k) (mul-comm 64 i))))
   where
-    set-digit : (t : Bool) → t ≡ eqb (one t) 1
-    set-digit true = refl
-    set-digit false = refl
+    back : (t : Bool) → t ≡ eqb (one t) 1
+    back true = refl
+    back false = refl
+
+    test : (k : ℕ) → k < 64 → has ws (64 * i + k) ≡ eqb (digit (getD ws i 0) k) 1
+    test k l = back (has ws (64 * i + k)) ∙ ap (λ (d : ℕ). eqb d 1) (has-digit ws i k l)
 
 sets-append : (l us vs : List ℕ) (i : ℕ) → sets l i (us ++ vs) ≡ sets (sets l i us) (i + length us) vs
 sets-append l [] vs i = ap (λ (k : ℕ). sets l k vs) (sym (add-zero i))

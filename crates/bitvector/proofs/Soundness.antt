@@ -60,8 +60,9 @@ module _ (capacity : ℕ) (ws : List ℕ) (s : sound capacity ws ≡ true) where
   pub stray : (b : ℕ) → capacity ≤ b → b < 64 * wordsFor capacity → has ws b ≡ false
   unfolding sound
   stray b l h =
+      let m : ℕ = 64 * wordsFor capacity - capacity in
       let e : capacity + (b - capacity) ≡ b = omega arith in
-      rw e at (none-rank (λ k. has ws (capacity + k)) (64 * wordsFor capacity - capacity) (eqb-true _ _ (both (roomy capacity ws) _ s .1)) (b - capacity) (omega arith))
+      rw e at (none-rank (λ k. has ws (capacity + k)) m (eqb-true _ 0 (both (roomy capacity ws) _ s .1)) (b - capacity) (omega arith))
 
   -- so the bits set in the needed words are the numbers of the set
   pub set-size : rank (has ws) (64 * wordsFor capacity) ≡ rank (setOf capacity ws) capacity

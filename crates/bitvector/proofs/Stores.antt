@@ -35,7 +35,8 @@ module _ (capacity : ℕ) (ws : List ℕ) (bit : ℕ) (s : sound capacity ws ≡
   pub inserted : Words ws → answered (one (not (has ws bit))) (withBit ws bit) ≡ insertCall capacity ws bit
   inserted f =
       rw (s, lt-ltb _ _ h)
-      (ap (answered (one (not (has ws bit)))) (put-stored true (withBit ws bit) (plus (setOf capacity ws) bit) (with-put ws bit) f (λ b. go (eqb b bit) (setOf capacity ws b))))
+      (ap (answered (one (not (has ws bit))))
+      (put-stored true (withBit ws bit) (plus (setOf capacity ws) bit) (with-put ws bit) f (λ b. go (eqb b bit) (setOf capacity ws b))))
     where
       go : (q x : Bool) → q || x ≡ cond q true x
       go true x = refl
@@ -44,7 +45,8 @@ module _ (capacity : ℕ) (ws : List ℕ) (bit : ℕ) (s : sound capacity ws ≡
   pub removed : Words ws → answered (one (has ws bit)) (withoutBit ws bit) ≡ removeCall capacity ws bit
   removed f =
       rw (s, lt-ltb _ _ h)
-      (ap (answered (one (has ws bit))) (put-stored false (withoutBit ws bit) (minus (setOf capacity ws) bit) (without-put ws bit) f (λ b. go (eqb b bit) (setOf capacity ws b))))
+      (ap (answered (one (has ws bit)))
+      (put-stored false (withoutBit ws bit) (minus (setOf capacity ws) bit) (without-put ws bit) f (λ b. go (eqb b bit) (setOf capacity ws b))))
     where
       go : (q x : Bool) → not q && x ≡ cond q false x
       go true x = refl

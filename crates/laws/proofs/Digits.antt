@@ -1,9 +1,11 @@
--- The digits of one number: they make it up, one is set by a sum and cleared by a difference, the ones are their sum, and the lowest that is set. Assumes nothing.
+-- The digits of one number: they make it up, one is set by a sum and cleared by a difference, their sum is the ones; and the lowest that is set.
+-- Assumes nothing.
 use mathlib.Core.Path.{_≡_, refl, sym, ap, ap₂, _∙_, subst}
 use mathlib.Core.Bool.{Bool, true, false, _||_}
 use mathlib.Core.Logic.{_≢_}
 use Prim.Native.Nat.{ℕ, zero, suc, _+_, _-_, _*_, _/_, _%_, _^_, _≤_, _<_, max, suc-le-suc}
-use native.Mathlib.Nat.{add-zero, add-comm, add-div-right, add-mul-div-right, div-lt-iff-lt-mul, div-one, le-dest, le-div-iff-mul-le, mod-eq-of-lt, mod-lt, mul-assoc, mul-mod-left, one-mul, pow-suc, zero-lt-suc}
+use native.Mathlib.Nat.{add-zero, add-comm, add-div-right, add-mul-div-right, div-lt-iff-lt-mul, div-one, le-dest, le-div-iff-mul-le}
+use native.Mathlib.Nat.{mod-eq-of-lt, mod-lt, mul-assoc, mul-mod-left, one-mul, pow-suc, zero-lt-suc}
 use native.Mathlib.Numerals.{add-one, one-add}
 use native.Mathlib.Decide.{decLt}
 use native.Mathlib.Omega.{arith}
@@ -66,7 +68,8 @@ number-digit s (suc n) k h = elim (decLt k n) [
   | yes l ↦ above-digit (one (s n)) (number s n) k n l ∙ number-digit s n k l
   | no m ↦
       let e : k ≡ n = omega arith in
-      let f : (number s n + one (s n) * 2 ^ n) / 2 ^ n ≡ one (s n) = ap (λ (x : ℕ). x / 2 ^ n) (add-comm (number s n) (one (s n) * 2 ^ n)) ∙ high (one (s n)) n (number-lt s n) in
+      let f : (number s n + one (s n) * 2 ^ n) / 2 ^ n ≡ one (s n) =
+      ap (λ (x : ℕ). x / 2 ^ n) (add-comm (number s n) (one (s n) * 2 ^ n)) ∙ high (one (s n)) n (number-lt s n) in
       rw (e, f) (go (s n))
 ]
   where
@@ -164,7 +167,9 @@ digit-or a b k =
 pub number-or : (s t : ℕ → Bool) (n : ℕ) → bitOr (number s n) (number t n) ≡ number (λ k. s k || t k) n
 number-or s t n =
     digit-ext n _ _ (or-lt n _ _ (number-lt s n) (number-lt t n)) (number-lt (λ k. s k || t k) n)
-    (λ k l. digit-or (number s n) (number t n) k ∙ ap₂ max (number-digit s n k l) (number-digit t n k l) ∙ go (s k) (t k) ∙ sym (number-digit (λ j. s j || t j) n k l))
+    (λ k l.
+    digit-or (number s n) (number t n) k ∙ ap₂ max (number-digit s n k l) (number-digit t n k l)
+    ∙ go (s k) (t k) ∙ sym (number-digit (λ j. s j || t j) n k l))
   where
     go : (a b : Bool) → max (one a) (one b) ≡ one (a || b)
     go true true = refl
