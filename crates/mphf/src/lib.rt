@@ -3,6 +3,8 @@ mod building;
 mod finding;
 mod fitting;
 
+pub use building::Built;
+pub use building::build;
 pub use finding::Found;
 pub use finding::Place;
 pub use finding::lookup;
