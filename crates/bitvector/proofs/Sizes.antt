@@ -10,7 +10,7 @@ use Rattle.laws.specs.Counting.{one, rank}
 use Rattle.laws.specs.Bits.{has, Words, wordsFor}
 use Rattle.laws.proofs.Sums.{sum-mono}
 use Rattle.laws.proofs.Digits.{ones-none, ones-zero}
-use Rattle.laws.proofs.Words.{rank-next}
+use Rattle.laws.proofs.Ones.{rank-next}
 use Rattle.bitvector.specs.Sets.{setOf}
 use Rattle.bitvector.specs.Calls.{answered, sound, isEmptyCall, lenCall}
 use Rattle.bitvector.proofs.Soundness.{set-size}

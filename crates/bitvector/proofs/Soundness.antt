@@ -14,7 +14,7 @@ use Rattle.laws.specs.Counting.{one, rank}
 use Rattle.laws.specs.Bits.{has, Words, wordsFor}
 use Rattle.laws.proofs.Ranks.{eqb-both, none-rank, rank-below, sum-range}
 use Rattle.laws.proofs.Digits.{ones-none, ones-zero}
-use Rattle.laws.proofs.Words.{rank-rest}
+use Rattle.laws.proofs.Ones.{rank-rest}
 use Rattle.bitvector.specs.Sets.{setOf}
 use Rattle.bitvector.specs.Calls.{roomy, sound}
 

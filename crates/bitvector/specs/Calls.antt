@@ -5,6 +5,7 @@ use mathlib.Core.List.{List, _++_}
 use lib.Dec.{eqb, leb, ltb}
 use lib.ListN.{length, drop}
 use Rattle.bounds.specs.Bounds.{maxBits}
+use Rattle.refusal.specs.declared.Refusal.{Refusal}
 use Rattle.refusal.specs.Table.{numberOf, valueOf}
 use Rattle.laws.specs.Counting.{one, rank}
 use Rattle.laws.specs.Bits.{has, wordsFor}
@@ -27,19 +28,22 @@ pub record Outcome : Type 0 where
 abbrev pub answered : ℕ → List ℕ → Outcome
 answered v ws = record { refusal = 0; value = v; store = ws }
 
+abbrev pub refused : Refusal → List ℕ → Outcome
+refused r ws = record { refusal = numberOf r; value = valueOf r; store = ws }
+
 -- the outcome of each answer, beside the store: yes is 1, no is 0, done is 0, a count is itself
 abbrev pub made : Made → List ℕ → Outcome
 made M.Done ws = answered 0 ws
-made (M.Refused r) ws = record { refusal = numberOf r; value = valueOf r; store = ws }
+made (M.Refused r) ws = refused r ws
 
 abbrev pub said : Said → List ℕ → Outcome
 said S.Yes ws = answered 1 ws
 said S.No ws = answered 0 ws
-said (S.Refused r) ws = record { refusal = numberOf r; value = valueOf r; store = ws }
+said (S.Refused r) ws = refused r ws
 
 abbrev pub counted : Counted → List ℕ → Outcome
 counted (C.Count n) ws = answered n ws
-counted (C.Refused r) ws = record { refusal = numberOf r; value = valueOf r; store = ws }
+counted (C.Refused r) ws = refused r ws
 
 -- ---- checks
 
@@ -54,6 +58,10 @@ roomy capacity ws = leb capacity maxBits && leb (wordsFor capacity) (length ws)
 -- 10: and no bit at or past the capacity is set in the last needed word
 unfoldable pub sound : ℕ → List ℕ → Bool
 sound capacity ws = roomy capacity ws && eqb (rank (λ k. has ws (capacity + k)) (64 * wordsFor capacity - capacity)) 0
+
+-- the checks of a call on one bit
+abbrev pub onBit : ℕ → List ℕ → ℕ → Outcome → Outcome
+onBit capacity ws bit next = check (sound capacity ws) 10 ws (check (ltb bit capacity) 9 ws next)
 
 -- ---- calls
 
@@ -82,23 +90,20 @@ lenCall capacity ws =
 -- yes: the bit is there
 abbrev pub containsCall : ℕ → List ℕ → ℕ → Outcome
 containsCall capacity ws bit =
-    check (sound capacity ws) 10 ws
-    (check (ltb bit capacity) 9 ws
-    (answered (one (setOf capacity ws bit)) ws))
+    onBit capacity ws bit
+    (answered (one (setOf capacity ws bit)) ws)
 
 -- yes: the bit was new
 abbrev pub insertCall : ℕ → List ℕ → ℕ → Outcome
 insertCall capacity ws bit =
-    check (sound capacity ws) 10 ws
-    (check (ltb bit capacity) 9 ws
-    (answered (one (not (setOf capacity ws bit))) (stored capacity (plus (setOf capacity ws) bit) ws)))
+    onBit capacity ws bit
+    (answered (one (not (setOf capacity ws bit))) (stored capacity (plus (setOf capacity ws) bit) ws))
 
 -- yes: the bit was there
 abbrev pub removeCall : ℕ → List ℕ → ℕ → Outcome
 removeCall capacity ws bit =
-    check (sound capacity ws) 10 ws
-    (check (ltb bit capacity) 9 ws
-    (answered (one (setOf capacity ws bit)) (stored capacity (minus (setOf capacity ws) bit) ws)))
+    onBit capacity ws bit
+    (answered (one (setOf capacity ws bit)) (stored capacity (minus (setOf capacity ws) bit) ws))
 
 -- yes: the set has changed
 abbrev pub insertAllCall : ℕ → List ℕ → ℕ → List ℕ → Outcome

@@ -1,11 +1,31 @@
 -- The steps that the calls and the levels share, in words that are there.
-use Prim.Native.Nat.{ℕ}
+use Prim.Native.Nat.{ℕ, _+_, _*_}
 use mathlib.Core.Path.{_≡_}
-use mathlib.Core.Bool.{Bool}
-use mathlib.Core.List.{List}
-use Rattle.laws.specs.Bits.{has}
+use mathlib.Core.Bool.{Bool, not, cond}
+use mathlib.Core.List.{List, [], _∷_, _++_}
+use lib.Count.{ones}
+use lib.Dec.{eqb}
+use lib.ListN.{drop}
+use lib.Seq.{sets}
+use Rattle.laws.specs.Counting.{blocks}
+use Rattle.laws.specs.Bits.{digit, has, packed}
+use Rattle.bitvector.specs.Sets.{union, sameBelow}
 
 -- one bit: whether it was set before is told, and the words become those that the step names
 pub record Step (ws : List ℕ) (bit : ℕ) (next : List ℕ) (told : Bool) (after : List ℕ) : Type 0 where
   pub old : told ≡ has ws bit
   pub words : after ≡ next
+
+-- the places of the set digits of a word, rising, the lowest digit's place being base
+unfoldable pub places : ℕ → ℕ → List ℕ
+places base w = blocks (λ k. cond (eqb (digit w k) 1) ((base + k) ∷ []) []) 64
+
+-- they stand in the store from `start` on, and the next place is told
+pub record Listed (base w start : ℕ) (out : List ℕ) (next : ℕ) (after : List ℕ) : Type 0 where
+  pub told : next ≡ start + ones w
+  pub store : after ≡ sets out start (places base w)
+
+-- the bits of both are in the first n words; whether one was new is told
+pub record Joined (n : ℕ) (ws us : List ℕ) (told : Bool) (after : List ℕ) : Type 0 where
+  pub new : told ≡ not (sameBelow (has ws) (union (has ws) (has us)) (64 * n))
+  pub words : after ≡ packed n (union (has ws) (has us)) ++ drop n ws

@@ -1,19 +1,22 @@
 -- The digits of one number: they make it up, one is set by a sum and cleared by a difference, the ones are their sum, and the lowest that is set. Assumes nothing.
 use mathlib.Core.Path.{_≡_, refl, sym, ap, ap₂, _∙_, subst}
-use mathlib.Core.Bool.{Bool, true, false}
+use mathlib.Core.Bool.{Bool, true, false, _||_}
 use mathlib.Core.Logic.{_≢_}
 use Prim.Native.Nat.{ℕ, zero, suc, _+_, _-_, _*_, _/_, _%_, _^_, _≤_, _<_, max, suc-le-suc}
 use native.Mathlib.Nat.{add-zero, add-comm, add-div-right, add-mul-div-right, div-lt-iff-lt-mul, div-one, le-dest, le-div-iff-mul-le, mod-eq-of-lt, mod-lt, mul-assoc, mul-mod-left, one-mul, pow-suc, zero-lt-suc}
 use native.Mathlib.Numerals.{add-one, one-add}
 use native.Mathlib.Decide.{decLt}
 use native.Mathlib.Omega.{arith}
+use borrow.Author.Tests.{lt-ltb, le-ltb}
 use lib.Arith.{bin-ind, digits-mod, lt-one}
-use lib.Bits.{bitOr, or-shr, or-step}
+use lib.Bits.{bitOr, or-lt, or-shr, or-step}
 use lib.Count.{ones, ones-cat, ones-step, trailingZeros, under}
+use lib.Dec.{eqb, ltb}
 use lib.Pow.{pow-pos, pow-add, mod-pow-add, pow-lt, shl-shr, shr-lt, shr-shr, high}
 use Rattle.laws.specs.Counting.{one, sum}
 use Rattle.laws.specs.Bits.{digit, number}
-use Rattle.laws.proofs.Ranks.{sum-below}
+use Rattle.laws.proofs.Sums.{sum-zero}
+use Rattle.laws.proofs.Ranks.{sum-below, sum-range, eqb-both}
 
 pub digit-lt : (w k : ℕ) → digit w k < 2
 digit-lt w k = omega arith
@@ -70,6 +73,23 @@ number-digit s (suc n) k h = elim (decLt k n) [
     go : (t : Bool) → one t % 2 ≡ one t
     go true = refl
     go false = refl
+
+-- the number whose low t digits are 1
+full : (t : ℕ) → number (λ k. true) t ≡ 2 ^ t - 1
+full zero = refl
+full (suc t) = omega (arith, full t, pow-suc 2 t, pow-pos t)
+
+pub number-low : (s : ℕ → Bool) (t n : ℕ) → t ≤ n → ((k : ℕ) → k < n → s k ≡ ltb k t) → number s n ≡ 2 ^ t - 1
+number-low s t n h e =
+    let w : ℕ → ℕ = λ k. one (s k) * 2 ^ k in
+    let q : n ≡ t + (n - t) = omega arith in
+    let low : sum w t ≡ 2 ^ t - 1 =
+    sum-below w (λ k. 1 * 2 ^ k) t (λ k l. ap (λ (b : Bool). one b * 2 ^ k) (e k (omega arith) ∙ lt-ltb k t l)) ∙ full t in
+    let up : sum (λ k. w (t + k)) (n - t) ≡ 0 =
+    sum-below (λ k. w (t + k)) (λ k. 0) (n - t)
+    (λ k l. ap (λ (b : Bool). one b * 2 ^ (t + k)) (e (t + k) (omega arith) ∙ le-ltb (t + k) t (omega arith)) ∙ omega arith)
+    ∙ sum-zero (n - t) in
+    ap (sum w) q ∙ sum-range w t (n - t) ∙ omega arith
 
 -- ---- one digit set by a sum, where it was 0
 
@@ -141,6 +161,17 @@ digit-or a b k =
     ap (λ (x : ℕ). x % 2) (or-shr a b k ∙ or-step (a / 2 ^ k) (b / 2 ^ k))
     ∙ digits-mod (bitOr (a / 2 ^ k / 2) (b / 2 ^ k / 2)) (omega (arith, digit-lt a k, digit-lt b k))
 
+pub number-or : (s t : ℕ → Bool) (n : ℕ) → bitOr (number s n) (number t n) ≡ number (λ k. s k || t k) n
+number-or s t n =
+    digit-ext n _ _ (or-lt n _ _ (number-lt s n) (number-lt t n)) (number-lt (λ k. s k || t k) n)
+    (λ k l. digit-or (number s n) (number t n) k ∙ ap₂ max (number-digit s n k l) (number-digit t n k l) ∙ go (s k) (t k) ∙ sym (number-digit (λ j. s j || t j) n k l))
+  where
+    go : (a b : Bool) → max (one a) (one b) ≡ one (a || b)
+    go true true = refl
+    go true false = refl
+    go false true = refl
+    go false false = refl
+
 -- ---- the ones among the low k digits are the sum of those digits
 
 ones-digit : (d : ℕ) → d < 2 → ones d ≡ d
@@ -171,6 +202,16 @@ digit-shr w k j = ap (λ (x : ℕ). x % 2) (shr-shr w k j)
 pub shl-low : (w j k : ℕ) → w * 2 ^ j % 2 ^ (k + j) ≡ w % 2 ^ k * 2 ^ j
 shl-low w j k =
     mod-pow-add (w * 2 ^ j) k j ∙ ap₂ (λ (x y : ℕ). x % 2 ^ k * 2 ^ j + y) (shl-shr w j) (mul-mod-left w (2 ^ j)) ∙ add-zero (w % 2 ^ k * 2 ^ j)
+
+-- so that two words shifted to the top are equal exactly if their low k digits are
+pub shl-same : (w v k : ℕ) → k ≤ 64 → eqb (w * 2 ^ (64 - k) % 2 ^ 64) (v * 2 ^ (64 - k) % 2 ^ 64) ≡ eqb (w % 2 ^ k) (v % 2 ^ k)
+shl-same w v k h =
+    let e : 64 ≡ k + (64 - k) = omega arith in
+    let low : (x : ℕ) → x * 2 ^ (64 - k) % 2 ^ 64 ≡ x % 2 ^ k * 2 ^ (64 - k) = λ x. ap (λ (n : ℕ). x * 2 ^ (64 - k) % 2 ^ n) e ∙ shl-low x (64 - k) k in
+    ap₂ eqb (low w) (low v)
+    ∙ eqb-both (w % 2 ^ k * 2 ^ (64 - k)) (v % 2 ^ k * 2 ^ (64 - k)) (w % 2 ^ k) (v % 2 ^ k)
+    (λ q. sym (shl-shr (w % 2 ^ k) (64 - k)) ∙ ap (λ (x : ℕ). x / 2 ^ (64 - k)) q ∙ shl-shr (v % 2 ^ k) (64 - k))
+    (λ q. ap (λ (x : ℕ). x * 2 ^ (64 - k)) q)
 
 pub ones-shl : (w k : ℕ) → k ≤ 64 → ones (w * 2 ^ (64 - k) % 2 ^ 64) ≡ ones (w % 2 ^ k)
 unfolding ones

@@ -5,3 +5,5 @@ pub mod Blocks
 pub mod Ranks
 pub mod Digits
 pub mod Words
+pub mod Packing
+pub mod Ones

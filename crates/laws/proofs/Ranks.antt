@@ -1,12 +1,13 @@
--- More laws of sums and ranks: a range cut in two, and sums that agree term by term. Assumes nothing.
-use mathlib.Core.Path.{_≡_, refl, sym, ap, _∙_}
+-- More laws of sums, ranks and blocks: a range cut in two, and terms that agree one by one. Assumes nothing.
+use mathlib.Core.Path.{_≡_, refl, sym, ap, ap₂, _∙_}
 use mathlib.Core.Bool.{Bool, true, false}
+use mathlib.Core.List.{List, [], _++_, append-assoc, append-nil}
 use Prim.Native.Nat.{ℕ, zero, suc, _+_, _≤_, _<_, zero-le}
 use native.Mathlib.Nat.{add-zero, add-suc, le-step, lt-suc-self}
 use native.Mathlib.Omega.{arith}
 use borrow.Author.Tests.{eqb-true, eqb-false, eq-eqb, ne-eqb}
 use lib.Dec.{eqb}
-use Rattle.laws.specs.Counting.{one, sum, rank}
+use Rattle.laws.specs.Counting.{one, sum, rank, blocks}
 use Rattle.laws.proofs.Sums.{rank-lt}
 
 pub sum-ones : (n : ℕ) → sum (λ p. 1) n ≡ n
@@ -37,6 +38,13 @@ none-rank f n e k l = go (f k) refl
     go true h = absurd (omega (arith, rank-lt f k n h l))
     go false h = refl
 
+-- a test's number gives the test back
+pub one-inj : (s t : Bool) → one s ≡ one t → s ≡ t
+one-inj true true e = refl
+one-inj true false e = absurd (omega arith)
+one-inj false true e = absurd (omega arith)
+one-inj false false e = refl
+
 -- tests that hold together are one test
 pub eqb-both : (a b c d : ℕ) → (a ≡ b → c ≡ d) → (c ≡ d → a ≡ b) → eqb a b ≡ eqb c d
 eqb-both a b c d f g = go (eqb a b) refl
@@ -52,3 +60,18 @@ rank-le f (suc n) = omega (arith, rank-le f n, go (f n))
     go : (t : Bool) → one t ≤ 1
     go true = omega arith
     go false = omega arith
+
+-- ---- lists one after another
+
+pub blocks-range : (f : ℕ → List ℕ) (m n : ℕ) → blocks f (m + n) ≡ blocks f m ++ blocks (λ k. f (m + k)) n
+blocks-range f m zero = ap (blocks f) (add-zero m) ∙ sym (append-nil (blocks f m))
+blocks-range f m (suc n) =
+    ap (blocks f) (add-suc m n) ∙ ap (λ (l : List ℕ). l ++ f (m + n)) (blocks-range f m n) ∙ append-assoc (blocks f m) (blocks (λ k. f (m + k)) n) (f (m + n))
+
+pub blocks-below : (f g : ℕ → List ℕ) (n : ℕ) → ((k : ℕ) → k < n → f k ≡ g k) → blocks f n ≡ blocks g n
+blocks-below f g zero e = refl
+blocks-below f g (suc n) e = ap₂ (λ (x y : List ℕ). x ++ y) (blocks-below f g n (λ k l. e k (le-step l))) (e n (lt-suc-self n))
+
+pub blocks-none : (f : ℕ → List ℕ) (n : ℕ) → ((k : ℕ) → k < n → f k ≡ []) → blocks f n ≡ []
+blocks-none f zero e = refl
+blocks-none f (suc n) e = ap₂ (λ (x y : List ℕ). x ++ y) (blocks-none f n (λ k l. e k (le-step l))) (e n (lt-suc-self n))

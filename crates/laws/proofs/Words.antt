@@ -1,58 +1,39 @@
--- Lists of words: their bits decide them, what setting and clearing one bit does, packing a plain set and reading it back, and counts of ones. Assumes nothing.
+-- Lists of words bit by bit: a bit as a digit, and one bit set or cleared. Assumes nothing.
 use mathlib.Core.Path.{_≡_, refl, sym, ap, _∙_}
 use mathlib.Core.Bool.{Bool, true, false, not, cond, _||_, _&&_}
-use mathlib.Core.List.{List, [], _∷_}
+use mathlib.Core.List.{List}
 use mathlib.Core.Logic.{_≢_}
-use Prim.Native.Nat.{ℕ, zero, suc, _+_, _-_, _*_, _/_, _%_, _^_, _≤_, _<_}
-use native.Mathlib.Nat.{add-zero, le-refl, lt-of-le-of-lt, mod-eq-of-lt, mod-lt, sub-le}
-use native.Mathlib.Numerals.{add-one}
+use Prim.Native.Nat.{ℕ, _+_, _-_, _*_, _/_, _%_, _^_, _≤_, _<_}
+use native.Mathlib.Nat.{lt-of-le-of-lt, mod-lt, sub-le}
 use native.Mathlib.Decide.{ℕ-discrete}
 use native.Mathlib.Omega.{arith}
 use borrow.Author.Tests.{eqb-true, eqb-false, eq-eqb, ne-eqb}
-use lib.Count.{ones}
-use lib.Dec.{eqb, lit<, lit≤}
-use lib.ListN.{length, getD, set, take, drop, length-set, List·getD-eq-default}
-use lib.Pow.{shr-lt}
-use lib.Seq.{getD-set-same, getD-set-other, set-out, drop-set-lt, ext-getD, length-take-le, take-length, getD-take}
-use Rattle.laws.specs.Counting.{one, sum, rank}
-use Rattle.laws.specs.Bits.{digit, bitAt, has, Words, withBit, withoutBit, number, packed}
+use lib.Dec.{eqb, lit<}
+use lib.ListN.{length, getD, set, drop, length-set}
+use lib.Seq.{getD-set-same, getD-set-other, set-getD, set-out, drop-set-lt}
+use Rattle.laws.specs.Counting.{one}
+use Rattle.laws.specs.Bits.{digit, bitAt, has, Words, withBit, withoutBit}
 use Rattle.laws.proofs.Cases.{tri, Tri, lt, eq, gt}
-use Rattle.laws.proofs.Blocks.{length-blocks, blocks-at}
-use Rattle.laws.proofs.Ranks.{sum-ones, sum-range, sum-below}
-use Rattle.laws.proofs.Digits.{digit-ext, number-lt, number-digit, up-same, up-other, up-fits, down-same, down-other, ones-low, digit-shr}
+use Rattle.laws.proofs.Ranks.{one-inj}
+use Rattle.laws.proofs.Digits.{digit-lt, up-same, up-other, up-fits, down-same, down-other}
 
--- ---- a bit as a number and as a test
+-- ---- a bit as a digit
 
-pub bit-lt : (ws : List ℕ) (b : ℕ) → bitAt ws b < 2
-unfolding bitAt
-bit-lt ws b = omega arith
-
-pub bit-word : (ws : List ℕ) (b : ℕ) → bitAt ws b ≡ digit (getD ws (b / 64) 0) (b % 64)
-unfolding bitAt
-bit-word ws b = refl
-
-pub bit-in-word : (ws : List ℕ) (i k : ℕ) → k < 64 → bitAt ws (64 * i + k) ≡ digit (getD ws i 0) k
-unfolding bitAt
-bit-in-word ws i k l =
-    let p : (64 * i + k) / 64 ≡ i = omega arith in
-    let q : (64 * i + k) % 64 ≡ k = omega arith in
-    rw (p, q)
-
-pub has-one : (ws : List ℕ) (b : ℕ) → one (has ws b) ≡ bitAt ws b
-unfolding has
-has-one ws b = go (eqb (bitAt ws b) 1) refl
+pub has-at : (ws : List ℕ) (b : ℕ) → one (has ws b) ≡ digit (getD ws (b / 64) 0) (b % 64)
+unfolding has bitAt
+has-at ws b = go (eqb (bitAt ws b) 1) refl
   where
     go : (t : Bool) → eqb (bitAt ws b) 1 ≡ t → one t ≡ bitAt ws b
     go true e = sym (eqb-true _ _ e)
-    go false e = omega (arith, bit-lt ws b, eqb-false (bitAt ws b) 1 e)
+    go false e = omega (arith, digit-lt (getD ws (b / 64) 0) (b % 64), eqb-false (bitAt ws b) 1 e)
 
-pub has-true : (ws : List ℕ) (b : ℕ) → has ws b ≡ true → bitAt ws b ≡ 1
-has-true ws b e = sym (has-one ws b) ∙ ap one e
+pub has-digit : (ws : List ℕ) (i k : ℕ) → k < 64 → one (has ws (64 * i + k)) ≡ digit (getD ws i 0) k
+has-digit ws i k l =
+    let p : (64 * i + k) / 64 ≡ i = omega arith in
+    let q : (64 * i + k) % 64 ≡ k = omega arith in
+    rw (p, q) at (has-at ws (64 * i + k))
 
-pub has-false : (ws : List ℕ) (b : ℕ) → has ws b ≡ false → bitAt ws b ≡ 0
-has-false ws b e = sym (has-one ws b) ∙ ap one e
-
--- from the test on the digit itself
+-- from the test of the digit
 pub has-set : (ws : List ℕ) (b : ℕ) → digit (getD ws (b / 64) 0) (b % 64) ≡ 1 → has ws b ≡ true
 unfolding has bitAt
 has-set ws b e = eq-eqb _ _ e
@@ -61,30 +42,20 @@ pub has-clear : (ws : List ℕ) (b : ℕ) → (digit (getD ws (b / 64) 0) (b % 6
 unfolding has bitAt
 has-clear ws b e = ne-eqb _ _ e
 
-pub same-bit : (us vs : List ℕ) (b : ℕ) → bitAt us b ≡ bitAt vs b → has us b ≡ has vs b
-unfolding has
-same-bit us vs b e = ap (λ (x : ℕ). eqb x 1) e
+-- ---- one bit put to t: its word is another, of which only that digit may be new
 
--- a test's number gives the test back
-pub one-inj : (s t : Bool) → one s ≡ one t → s ≡ t
-one-inj true true e = refl
-one-inj true false e = absurd (omega arith)
-one-inj false true e = absurd (omega arith)
-one-inj false false e = refl
+pub record Put (ws : List ℕ) (b : ℕ) (t : Bool) (us : List ℕ) : Type 0 where
+  pub word : ℕ
+  pub list : us ≡ set ws (b / 64) word
+  pub here : digit word (b % 64) ≡ one t
+  pub others : (k : ℕ) → k ≢ b % 64 → digit word k ≡ digit (getD ws (b / 64) 0) k
+  pub fits : getD ws (b / 64) 0 < 2 ^ 64 → word < 2 ^ 64
 
--- ---- the bits decide the words
+-- a bit that is t already stays
+put-old : (ws : List ℕ) (b : ℕ) (t : Bool) → has ws b ≡ t → Put ws b t ws
+put-old ws b t e =
+    record { word = getD ws (b / 64) 0; list = sym (set-getD ws (b / 64) 0); here = sym (has-at ws b) ∙ ap one e; others = λ k m. refl; fits = λ h. h }
 
-pub words-ext : (us vs : List ℕ) → length us ≡ length vs → Words us → Words vs → ((b : ℕ) → b < 64 * length us → has us b ≡ has vs b) → us ≡ vs
-words-ext us vs l fu fv e =
-    ext-getD 0 us vs l (λ i h.
-    digit-ext 64 (getD us i 0) (getD vs i 0) (fu i) (fv i)
-    (λ k m.
-    let b : ℕ = 64 * i + k in
-    sym (bit-in-word us i k m) ∙ sym (has-one us b) ∙ ap one (e b (omega arith)) ∙ has-one vs b ∙ bit-in-word vs i k m))
-
--- ---- one bit set, one bit cleared
-
--- what is there already, or not, changes nothing
 pub with-old : (ws : List ℕ) (b : ℕ) → has ws b ≡ true → withBit ws b ≡ ws
 unfolding withBit
 with-old ws b e = rw e
@@ -101,205 +72,86 @@ pub without-new : (ws : List ℕ) (b : ℕ) → has ws b ≡ false → withoutBi
 unfolding withoutBit
 without-new ws b e = rw e
 
-module _ (ws : List ℕ) (b : ℕ) (h : b / 64 < length ws) where
-  put-same : (v : ℕ) → bitAt (set ws (b / 64) v) b ≡ digit v (b % 64)
-  unfolding bitAt
-  put-same v = ap (λ (x : ℕ). digit x (b % 64)) (getD-set-same ws (b / 64) v 0 h)
-
-  put-other : (v j : ℕ) → j ≢ b → ((k : ℕ) → k ≢ b % 64 → digit v k ≡ digit (getD ws (b / 64) 0) k) → bitAt (set ws (b / 64) v) j ≡ bitAt ws j
-  unfolding bitAt
-  put-other v j n keep =
-      elim (ℕ-discrete (j / 64) (b / 64)) [
-        | yes e ↦
-            let m : j % 64 ≢ b % 64 = omega arith in
-            ap (λ (i : ℕ). digit (getD (set ws (b / 64) v) i 0) (j % 64)) e
-            ∙ ap (λ (x : ℕ). digit x (j % 64)) (getD-set-same ws (b / 64) v 0 h)
-            ∙ keep (j % 64) m
-            ∙ ap (λ (i : ℕ). digit (getD ws i 0) (j % 64)) (sym e)
-        | no m ↦ ap (λ (x : ℕ). digit x (j % 64)) (getD-set-other ws (b / 64) (j / 64) v 0 m)
-      ]
-
-  -- a word whose digit b mod 64 alone may be new
-  put-has : (v d : ℕ) → digit v (b % 64) ≡ d → ((k : ℕ) → k ≢ b % 64 → digit v k ≡ digit (getD ws (b / 64) 0) k)
-      → (j : ℕ) → has (set ws (b / 64) v) j ≡ cond (eqb j b) (eqb d 1) (has ws j)
-  unfolding has
-  put-has v d e keep j = go (eqb j b) refl
-    where
-      go : (t : Bool) → eqb j b ≡ t → eqb (bitAt (set ws (b / 64) v) j) 1 ≡ cond t (eqb d 1) (eqb (bitAt ws j) 1)
-      go true q = ap (λ (x : ℕ). eqb x 1) (ap (bitAt (set ws (b / 64) v)) (eqb-true j b q) ∙ put-same v ∙ e)
-      go false q = ap (λ (x : ℕ). eqb x 1) (put-other v j (eqb-false j b q) keep)
-
-  -- the words with b hold b and what they held
-  pub with-has : (j : ℕ) → has (withBit ws b) j ≡ eqb j b || has ws j
-  with-has j = go (has ws b) refl
-    where
-      old : (t : Bool) → eqb j b ≡ t → has ws b ≡ true → has ws j ≡ t || has ws j
-      old true q e = ap (has ws) (eqb-true j b q) ∙ e
-      old false q e = refl
-
-      new : (t : Bool) → cond t true (has ws j) ≡ t || has ws j
-      new true = refl
-      new false = refl
-
-      go : (t : Bool) → has ws b ≡ t → has (withBit ws b) j ≡ eqb j b || has ws j
-      go true e = ap (λ (l : List ℕ). has l j) (with-old ws b e) ∙ old (eqb j b) refl e
-      go false e =
-          let z : digit (getD ws (b / 64) 0) (b % 64) ≡ 0 = sym (bit-word ws b) ∙ has-false ws b e in
-          ap (λ (l : List ℕ). has l j) (with-new ws b e)
-          ∙ put-has (getD ws (b / 64) 0 + 2 ^ (b % 64)) 1 (up-same _ _ z) (λ k m. up-other _ _ k z m) j
-          ∙ new (eqb j b)
-
-  -- and those without it what they held, but for b
-  pub without-has : (j : ℕ) → has (withoutBit ws b) j ≡ not (eqb j b) && has ws j
-  without-has j = go (has ws b) refl
-    where
-      new : (t : Bool) → eqb j b ≡ t → has ws b ≡ false → has ws j ≡ not t && has ws j
-      new true q e = ap (has ws) (eqb-true j b q) ∙ e
-      new false q e = refl
-
-      old : (t : Bool) → cond t false (has ws j) ≡ not t && has ws j
-      old true = refl
-      old false = refl
-
-      go : (t : Bool) → has ws b ≡ t → has (withoutBit ws b) j ≡ not (eqb j b) && has ws j
-      go true e =
-          let z : digit (getD ws (b / 64) 0) (b % 64) ≡ 1 = sym (bit-word ws b) ∙ has-true ws b e in
-          ap (λ (l : List ℕ). has l j) (without-old ws b e)
-          ∙ put-has (getD ws (b / 64) 0 - 2 ^ (b % 64)) 0 (down-same _ _ z) (λ k m. down-other _ _ k z m) j
-          ∙ old (eqb j b)
-      go false e = ap (λ (l : List ℕ). has l j) (without-new ws b e) ∙ new (eqb j b) refl e
-
--- ---- what they keep: the length, the words past the bit's, and that every number is a word
-
-module _ (ws : List ℕ) (b : ℕ) where
-  pub length-with : length (withBit ws b) ≡ length ws
-  length-with = go (has ws b) refl
-    where
-      go : (t : Bool) → has ws b ≡ t → length (withBit ws b) ≡ length ws
-      go true e = rw (with-old ws b e)
-      go false e = rw (with-new ws b e) (simp length-set)
-
-  pub length-without : length (withoutBit ws b) ≡ length ws
-  length-without = go (has ws b) refl
-    where
-      go : (t : Bool) → has ws b ≡ t → length (withoutBit ws b) ≡ length ws
-      go true e = rw (without-old ws b e) (simp length-set)
-      go false e = rw (without-new ws b e)
-
-  pub drop-with : (n : ℕ) → b / 64 < n → drop n (withBit ws b) ≡ drop n ws
-  drop-with n h = go (has ws b) refl
-    where
-      go : (t : Bool) → has ws b ≡ t → drop n (withBit ws b) ≡ drop n ws
-      go true e = ap (drop n) (with-old ws b e)
-      go false e = ap (drop n) (with-new ws b e) ∙ drop-set-lt n ws (b / 64) _ h
-
-  pub drop-without : (n : ℕ) → b / 64 < n → drop n (withoutBit ws b) ≡ drop n ws
-  drop-without n h = go (has ws b) refl
-    where
-      go : (t : Bool) → has ws b ≡ t → drop n (withoutBit ws b) ≡ drop n ws
-      go true e = ap (drop n) (without-old ws b e) ∙ drop-set-lt n ws (b / 64) _ h
-      go false e = ap (drop n) (without-new ws b e)
-
--- a word for a word
-pub words-set : (ws : List ℕ) (i v : ℕ) → Words ws → v < 2 ^ 64 → Words (set ws i v)
-words-set ws i v f h j = go (tri i (length ws))
+pub with-put : (ws : List ℕ) (b : ℕ) → Put ws b true (withBit ws b)
+with-put ws b = go (has ws b) refl
   where
-    go : Tri i (length ws) → getD (set ws i v) j 0 < 2 ^ 64
-    go (lt l) = elim (ℕ-discrete j i) [ yes e ↦ rw (e, getD-set-same ws i v 0 l) h | no n ↦ rw (getD-set-other ws i j v 0 n) (f j) ]
-    go (eq e) = rw (set-out ws i v (omega arith)) (f j)
-    go (gt l) = rw (set-out ws i v (omega arith)) (f j)
+    go : (t : Bool) → has ws b ≡ t → Put ws b true (withBit ws b)
+    go true e = rw (with-old ws b e) (put-old ws b true e)
+    go false e =
+        let w : ℕ = getD ws (b / 64) 0 in
+        let z : digit w (b % 64) ≡ 0 = sym (has-at ws b) ∙ ap one e in
+        record {
+          word = w + 2 ^ (b % 64);
+          list = with-new ws b e;
+          here = up-same w (b % 64) z;
+          others = λ k m. up-other w (b % 64) k z m;
+          fits = λ h. up-fits 64 w (b % 64) h (mod-lt b (lit< tt)) z;
+        }
 
-module _ (ws : List ℕ) (b : ℕ) (f : Words ws) where
-  pub words-with : Words (withBit ws b)
-  words-with = go (has ws b) refl
-    where
-      go : (t : Bool) → has ws b ≡ t → Words (withBit ws b)
-      go true e i = rw (with-old ws b e) (f i)
-      go false e i =
-          rw (with-new ws b e)
-          (words-set ws (b / 64) _ f (up-fits 64 _ (b % 64) (f (b / 64)) (mod-lt b (lit< tt)) (sym (bit-word ws b) ∙ has-false ws b e)) i)
-
-  pub words-without : Words (withoutBit ws b)
-  words-without = go (has ws b) refl
-    where
-      go : (t : Bool) → has ws b ≡ t → Words (withoutBit ws b)
-      go true e i = rw (without-old ws b e) (words-set ws (b / 64) _ f (lt-of-le-of-lt (sub-le _ _) (f (b / 64))) i)
-      go false e i = rw (without-new ws b e) (f i)
-
--- ---- packing a plain set, and reading it back
-
-pub length-packed : (n : ℕ) (s : ℕ → Bool) → length (packed n s) ≡ n
-unfolding packed
-length-packed n s = length-blocks _ n ∙ sum-ones n
-
-pub packed-at : (n : ℕ) (s : ℕ → Bool) (i : ℕ) → i < n → getD (packed n s) i 0 ≡ number (λ k. s (64 * i + k)) 64
-unfolding packed
-packed-at n s i l = rw (sum-ones i, add-zero i) at (blocks-at (λ i. number (λ k. s (64 * i + k)) 64 ∷ []) (λ i. 1) (λ i. refl) n i 0 l (lit< tt))
-
-pub packed-has : (n : ℕ) (s : ℕ → Bool) (b : ℕ) → b < 64 * n → has (packed n s) b ≡ s b
-packed-has n s b h =
-    let e : 64 * (b / 64) + b % 64 ≡ b = omega arith in
-    one-inj _ _
-    (has-one (packed n s) b ∙ bit-word (packed n s) b ∙ ap (λ (w : ℕ). digit w (b % 64)) (packed-at n s (b / 64) (omega arith))
-    ∙ number-digit (λ k. s (64 * (b / 64) + k)) 64 (b % 64) (mod-lt b (lit< tt)) ∙ ap (λ (x : ℕ). one (s x)) e)
-
-pub words-packed : (n : ℕ) (s : ℕ → Bool) → Words (packed n s)
-words-packed n s i = go (tri i n)
+pub without-put : (ws : List ℕ) (b : ℕ) → Put ws b false (withoutBit ws b)
+without-put ws b = go (has ws b) refl
   where
-    past : n ≤ i → getD (packed n s) i 0 < 2 ^ 64
-    past h = rw (List·getD-eq-default (packed n s) 0 {n = i} (rw (length-packed n s) h)) (lit< tt)
+    go : (t : Bool) → has ws b ≡ t → Put ws b false (withoutBit ws b)
+    go false e = rw (without-new ws b e) (put-old ws b false e)
+    go true e =
+        let w : ℕ = getD ws (b / 64) 0 in
+        let z : digit w (b % 64) ≡ 1 = sym (has-at ws b) ∙ ap one e in
+        record {
+          word = w - 2 ^ (b % 64);
+          list = without-old ws b e;
+          here = down-same w (b % 64) z;
+          others = λ k m. down-other w (b % 64) k z m;
+          fits = λ h. lt-of-le-of-lt (sub-le w (2 ^ (b % 64))) h;
+        }
 
-    go : Tri i n → getD (packed n s) i 0 < 2 ^ 64
-    go (lt l) = rw (packed-at n s i l) (number-lt (λ k. s (64 * i + k)) 64)
-    go (eq e) = past (omega arith)
-    go (gt l) = past (omega arith)
+-- ---- what it changes, and what it keeps: the length, the words past the bit's, and that every number is a word
 
--- the first n words of a list, from the plain set that they hold
-pub packed-take : (n : ℕ) (s : ℕ → Bool) (ws : List ℕ) → n ≤ length ws → Words ws → ((b : ℕ) → b < 64 * n → s b ≡ has ws b) → packed n s ≡ take n ws
-packed-take n s ws h f e =
-    ext-getD 0 (packed n s) (take n ws) (length-packed n s ∙ sym (length-take-le n ws h))
-    (λ i l.
-    let m : i < n = rw (length-packed n s) at l in
-    digit-ext 64 (getD (packed n s) i 0) (getD (take n ws) i 0) (words-packed n s i) (rw (getD-take n ws i 0 m) (f i))
-    (λ k q.
-    let b : ℕ = 64 * i + k in
-    sym (bit-in-word (packed n s) i k q) ∙ sym (has-one (packed n s) b) ∙ ap one (packed-has n s b (omega arith) ∙ e b (omega arith))
-    ∙ has-one ws b ∙ bit-in-word ws i k q ∙ ap (λ (w : ℕ). digit w k) (sym (getD-take n ws i 0 m))))
+pub put-length : {ws : List ℕ} {b : ℕ} {t : Bool} {us : List ℕ} → Put ws b t us → length us ≡ length ws
+put-length p = rw (p .list) (simp length-set)
 
-pub packed-back : (ws : List ℕ) → Words ws → packed (length ws) (has ws) ≡ ws
-packed-back ws f = packed-take (length ws) (has ws) ws (le-refl (length ws)) f (λ b h. refl) ∙ take-length ws
+pub put-drop : {ws : List ℕ} {b : ℕ} {t : Bool} {us : List ℕ} → Put ws b t us → (n : ℕ) → b / 64 < n → drop n us ≡ drop n ws
+put-drop {ws} {b} p n h = ap (drop n) (p .list) ∙ drop-set-lt n ws (b / 64) (p .word) h
 
--- ---- counts of ones
+pub put-words : {ws : List ℕ} {b : ℕ} {t : Bool} {us : List ℕ} → Put ws b t us → Words ws → Words us
+put-words {ws} {b} p f i = rw (p .list) (go (tri (b / 64) (length ws)))
+  where
+    out : length ws ≤ b / 64 → getD (set ws (b / 64) (p .word)) i 0 < 2 ^ 64
+    out h = rw (set-out ws (b / 64) (p .word) h) (f i)
 
--- the set bits below a position: those before its word, and the ones below it in its own
-pub rank-word : (ws : List ℕ) (i k : ℕ) → k ≤ 64 → rank (has ws) (64 * i + k) ≡ rank (has ws) (64 * i) + ones (getD ws i 0 % 2 ^ k)
-rank-word ws i k h =
-    sum-range (λ p. one (has ws p)) (64 * i) k
-    ∙ ap (λ (n : ℕ). rank (has ws) (64 * i) + n)
-    (sum-below _ _ k (λ j l. has-one ws (64 * i + j) ∙ bit-in-word ws i j (omega arith)) ∙ sym (ones-low (getD ws i 0) k))
+    go : Tri (b / 64) (length ws) → getD (set ws (b / 64) (p .word)) i 0 < 2 ^ 64
+    go (lt l) =
+        elim (ℕ-discrete i (b / 64)) [
+          | yes e ↦ rw (e, getD-set-same ws (b / 64) (p .word) 0 l) (p .fits (f (b / 64)))
+          | no n ↦ rw (getD-set-other ws (b / 64) i (p .word) 0 n) (f i)
+        ]
+    go (eq e) = out (omega arith)
+    go (gt l) = out (omega arith)
 
-pub rank-next : (ws : List ℕ) → Words ws → (i : ℕ) → rank (has ws) (64 * (i + 1)) ≡ rank (has ws) (64 * i) + ones (getD ws i 0)
-rank-next ws f i =
-    let e : 64 * (i + 1) ≡ 64 * i + 64 = omega arith in
-    ap (rank (has ws)) e ∙ rank-word ws i 64 (lit≤ tt) ∙ ap (λ (w : ℕ). rank (has ws) (64 * i) + ones w) (mod-eq-of-lt (f i))
+pub put-has : {ws : List ℕ} {b : ℕ} {t : Bool} {us : List ℕ} → Put ws b t us → b / 64 < length ws → (j : ℕ) → has us j ≡ cond (eqb j b) t (has ws j)
+put-has {ws} {b} {t} {us} p h j = one-inj _ _ (has-at us j ∙ rw (p .list) (go (eqb j b) refl))
+  where
+    go : (q : Bool) → eqb j b ≡ q → digit (getD (set ws (b / 64) (p .word)) (j / 64) 0) (j % 64) ≡ one (cond q t (has ws j))
+    go true e = rw (eqb-true j b e, getD-set-same ws (b / 64) (p .word) 0 h) (p .here)
+    go false e =
+        let n : j ≢ b = eqb-false j b e in
+        elim (ℕ-discrete (j / 64) (b / 64)) [
+          | yes i ↦
+              let m : j % 64 ≢ b % 64 = omega arith in
+              rw (has-at ws j, i, getD-set-same ws (b / 64) (p .word) 0 h) (p .others (j % 64) m)
+          | no i ↦ rw (has-at ws j, getD-set-other ws (b / 64) (j / 64) (p .word) 0 i)
+        ]
 
--- the ones of the first i words are the set bits there
-pub rank-words : (ws : List ℕ) → Words ws → (i : ℕ) → rank (has ws) (64 * i) ≡ sum (λ j. ones (getD ws j 0)) i
-rank-words ws f zero = refl
-rank-words ws f (suc i) = ap (λ (n : ℕ). rank (has ws) (64 * n)) (sym (add-one i)) ∙ rank-next ws f i ∙ omega (arith, rank-words ws f i)
+-- the words with b hold b and what they held, and those without it what they held but for b
+pub with-has : (ws : List ℕ) (b : ℕ) → b / 64 < length ws → (j : ℕ) → has (withBit ws b) j ≡ eqb j b || has ws j
+with-has ws b h j = put-has (with-put ws b) h j ∙ go (eqb j b)
+  where
+    go : (q : Bool) → cond q true (has ws j) ≡ q || has ws j
+    go true = refl
+    go false = refl
 
-pub rank-at : (ws : List ℕ) → Words ws → (i k : ℕ) → k ≤ 64 → rank (has ws) (64 * i + k) ≡ sum (λ j. ones (getD ws j 0)) i + ones (getD ws i 0 % 2 ^ k)
-rank-at ws f i k h = rank-word ws i k h ∙ ap (λ (n : ℕ). n + ones (getD ws i 0 % 2 ^ k)) (rank-words ws f i)
-
--- the set bits from a position to the end of its word
-pub rank-rest : (ws : List ℕ) → Words ws → (i k : ℕ) → k ≤ 64 → rank (λ j. has ws (64 * i + k + j)) (64 - k) ≡ ones (getD ws i 0 / 2 ^ k)
-rank-rest ws f i k h =
-    let w : ℕ = getD ws i 0 in
-    let e : 64 - k + k ≡ 64 = omega arith in
-    let l : w / 2 ^ k < 2 ^ (64 - k) = shr-lt (64 - k) k (rw e (f i)) in
-    sum-below _ (λ j. digit (w / 2 ^ k) j) (64 - k)
-    (λ j m.
-    let a : 64 * i + k + j ≡ 64 * i + (k + j) = omega arith in
-    ap (λ (p : ℕ). one (has ws p)) a ∙ has-one ws (64 * i + (k + j)) ∙ bit-in-word ws i (k + j) (omega arith) ∙ sym (digit-shr w k j))
-    ∙ sym (ones-low (w / 2 ^ k) (64 - k))
-    ∙ ap ones (mod-eq-of-lt l)
+pub without-has : (ws : List ℕ) (b : ℕ) → b / 64 < length ws → (j : ℕ) → has (withoutBit ws b) j ≡ not (eqb j b) && has ws j
+without-has ws b h j = put-has (without-put ws b) h j ∙ go (eqb j b)
+  where
+    go : (q : Bool) → cond q false (has ws j) ≡ not q && has ws j
+    go true = refl
+    go false = refl

@@ -38,6 +38,10 @@ withoutBit ws b = cond (has ws b) (set ws (b / 64) (getD ws (b / 64) 0 - 2 ^ (b 
 abbrev pub number : (ℕ → Bool) → ℕ → ℕ
 number s n = sum (λ k. one (s k) * 2 ^ k) n
 
+-- word i of a plain set: digit k is 1 where 64 i + k is in it
+abbrev pub wordOf : (ℕ → Bool) → ℕ → ℕ
+wordOf s i = number (λ k. s (64 * i + k)) 64
+
 -- n words that hold a plain set: bit b is set where s b
 unfoldable pub packed : ℕ → (ℕ → Bool) → List ℕ
-packed n s = blocks (λ i. number (λ k. s (64 * i + k)) 64 ∷ []) n
+packed n s = blocks (λ i. wordOf s i ∷ []) n

@@ -11,7 +11,7 @@ use Rattle.laws.specs.Bits.{has, Words}
 use Rattle.laws.proofs.Sums.{sum-split}
 use Rattle.laws.proofs.Ranks.{rank-le}
 use Rattle.laws.proofs.Digits.{ones-shl}
-use Rattle.laws.proofs.Words.{rank-word, rank-words}
+use Rattle.laws.proofs.Ones.{rank-word, rank-words}
 use Rattle.ranks.specs.Ranks.{setBits, onesFrom}
 
 -- the set bits of words are the ones of each word, summed

@@ -9,7 +9,7 @@ use Rattle.refusal.specs.declared.Refusal.{Refusal}
 use Rattle.refusal.specs.declared.Refusal.the-variants.{GammaTooSmall, GammaTooLarge, TooManyIds, ShortWorkStore, NoRoomForLevel, IdsRemain, UnfitHead, UnfitRow, BitOutside, UnfitSet, ShortOutput, WrongIds}
 
 -- the case of a number and a value
-abbrev caseOf : ℕ → ℕ → Refusal
+abbrev pub caseOf : ℕ → ℕ → Refusal
 caseOf n v =
     getD
     (GammaTooSmall ∷ GammaTooLarge ∷ TooManyIds ∷ ShortWorkStore ∷ NoRoomForLevel v ∷ IdsRemain v ∷ UnfitHead ∷ UnfitRow ∷ BitOutside ∷ UnfitSet
@@ -17,7 +17,7 @@ caseOf n v =
     (n - 1)
     WrongIds
 
-case-back : (r : Refusal) → caseOf (numberOf r) (valueOf r) ≡ r
+pub case-back : (r : Refusal) → caseOf (numberOf r) (valueOf r) ≡ r
 case-back GammaTooSmall = refl
 case-back GammaTooLarge = refl
 case-back TooManyIds = refl

@@ -5,7 +5,7 @@ use Prim.Native.Nat.{_/_, _%_}
 use native.Mathlib.Nat.{mod-lt}
 use native.Mathlib.Omega.{arith}
 use lib.Dec.{lit<}
-use Rattle.laws.proofs.Digits.{digit-lt, one-shl, up-fits}
+use Rattle.laws.proofs.Digits.{one-shl, up-fits}
 use Rattle.laws.proofs.Words.{has-set, has-clear, with-old, with-new}
 use Rattle.bitvector.proofs.add_bit.Statement.{statement}
 use Rattle.bitvector.proofs.add_bit.Tie as tie

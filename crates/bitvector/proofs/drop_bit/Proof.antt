@@ -3,6 +3,7 @@ use borrow.Author.Needs.{needs}
 use mathlib.Core.Path.{sym}
 use Prim.Native.Nat.{_%_}
 use native.Mathlib.Nat.{mod-lt}
+use native.Mathlib.Omega.{arith}
 use lib.Dec.{lit<}
 use Rattle.laws.proofs.Digits.{down-le, one-shl}
 use Rattle.laws.proofs.Words.{has-set, has-clear, without-old, without-new}
@@ -19,7 +20,7 @@ drop-bit-spec =
     (λ c. search needs)
     (λ c.
     let b = c .before .before .args .bit in
-    rw (one-shl (b % 64) (mod-lt b (lit< tt))) (down-le _ (b % 64) (c .if1 .taken)))
+    omega (arith, one-shl (b % 64) (mod-lt b (lit< tt)), down-le _ (b % 64) (c .if1 .taken)))
     (λ c. search needs)
     (λ c. search needs)
     (λ c. search needs)

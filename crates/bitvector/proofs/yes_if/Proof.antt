@@ -1,5 +1,4 @@
 -- `bitvector::yes_if` meets its contract. Assumes nothing.
-use mathlib.Core.Path.{refl}
 use Rattle.bitvector.proofs.yes_if.Statement.{statement}
 use Rattle.bitvector.proofs.yes_if.Tie as tie
 

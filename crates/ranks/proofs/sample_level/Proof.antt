@@ -8,7 +8,7 @@ use lib.ListN.{length}
 use Rattle.laws.specs.Counting.{rank}
 use Rattle.laws.specs.Bits.{has}
 use Rattle.laws.proofs.Ranks.{rank-le}
-use Rattle.laws.proofs.Words.{rank-next}
+use Rattle.laws.proofs.Ones.{rank-next}
 use Rattle.ranks.specs.Ranks.{setBits}
 use Rattle.ranks.proofs.Samples.{sampledTo, sampled-none, length-sampled, starts-sample, within-sample}
 use Rattle.ranks.proofs.sample_level.Statement.{statement}

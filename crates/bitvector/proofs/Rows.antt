@@ -1,0 +1,51 @@
+-- Worked examples of the calls, both sides of each line: one table of tests, which antt computes. Assumes nothing.
+use Prim.Native.Nat.{ℕ, _-_, _^_}
+use mathlib.Core.Bool.{Bool, true, false, _&&_}
+use mathlib.Core.List.{List, [], _∷_}
+use lib.Dec.{T, eqb}
+use Rattle.laws.specs.Bits.{bitAt, has, packed}
+use Rattle.bitvector.specs.Sets.{stored}
+use Rattle.bitvector.specs.Calls.{Outcome, roomy, sound, newCall, onesCall, isEmptyCall, lenCall, containsCall, insertCall, removeCall, insertAllCall, eqLeftCall, membersCall}
+
+abbrev same : List ℕ → List ℕ → Bool
+same [] [] = true
+same [] (y ∷ ys) = false
+same (x ∷ xs) [] = false
+same (x ∷ xs) (y ∷ ys) = eqb x y && same xs ys
+
+-- an outcome is this refusal number, this value and this store
+abbrev is : Outcome → ℕ → ℕ → List ℕ → Bool
+is x refusal value store = eqb (x .refusal) refusal && (eqb (x .value) value && same (x .store) store)
+
+abbrev all : List Bool → Bool
+all [] = true
+all (row ∷ rows) = row && all rows
+
+rows : T (all
+    (is (newCall 16_777_217 []) 10 0 []
+    ∷ is (newCall 65 (9 ∷ 9 ∷ 9 ∷ [])) 0 0 (0 ∷ 0 ∷ 9 ∷ [])
+    ∷ is (onesCall 64 (9 ∷ 9 ∷ [])) 0 0 ((2 ^ 64 - 1) ∷ 9 ∷ [])
+    ∷ is (onesCall 65 (9 ∷ 9 ∷ 9 ∷ [])) 0 0 ((2 ^ 64 - 1) ∷ 1 ∷ 9 ∷ [])
+    ∷ is (onesCall 65 (9 ∷ [])) 10 0 (9 ∷ [])
+    ∷ is (isEmptyCall 65 (0 ∷ 0 ∷ 9 ∷ [])) 0 1 (0 ∷ 0 ∷ 9 ∷ [])
+    ∷ is (isEmptyCall 65 (0 ∷ 1 ∷ [])) 0 0 (0 ∷ 1 ∷ [])
+    ∷ is (lenCall 65 (7 ∷ 1 ∷ 9 ∷ [])) 0 4 (7 ∷ 1 ∷ 9 ∷ [])
+    ∷ is (lenCall 65 (7 ∷ 2 ∷ [])) 10 0 (7 ∷ 2 ∷ [])
+    ∷ is (containsCall 65 (0 ∷ 1 ∷ []) 64) 0 1 (0 ∷ 1 ∷ [])
+    ∷ is (insertCall 255 (0 ∷ 0 ∷ 0 ∷ 0 ∷ []) 254) 0 1 (0 ∷ 0 ∷ 0 ∷ 2 ^ 62 ∷ [])
+    ∷ is (insertCall 255 (0 ∷ 0 ∷ 0 ∷ 0 ∷ []) 255) 9 0 (0 ∷ 0 ∷ 0 ∷ 0 ∷ [])
+    ∷ is (insertCall 255 (0 ∷ 0 ∷ 0 ∷ 2 ^ 63 ∷ []) 255) 10 0 (0 ∷ 0 ∷ 0 ∷ 2 ^ 63 ∷ [])
+    ∷ is (insertCall 8 (6 ∷ []) 2) 0 0 (6 ∷ [])
+    ∷ is (removeCall 8 (6 ∷ []) 2) 0 1 (2 ∷ [])
+    ∷ is (insertAllCall 64 (1 ∷ []) 64 (3 ∷ [])) 0 1 (3 ∷ [])
+    ∷ is (insertAllCall 64 (3 ∷ []) 64 (1 ∷ [])) 0 0 (3 ∷ [])
+    ∷ is (insertAllCall 64 (1 ∷ []) 63 (3 ∷ [])) 10 0 (1 ∷ [])
+    ∷ is (eqLeftCall 0 [] 0 [] 0) 0 1 []
+    ∷ is (eqLeftCall 65 (5 ∷ 1 ∷ []) 66 (5 ∷ 0 ∷ []) 64) 0 1 (5 ∷ 1 ∷ [])
+    ∷ is (eqLeftCall 65 (5 ∷ 1 ∷ []) 66 (5 ∷ 0 ∷ []) 65) 0 0 (5 ∷ 1 ∷ [])
+    ∷ is (eqLeftCall 65 (5 ∷ 1 ∷ []) 66 (5 ∷ 0 ∷ []) 66) 9 0 (5 ∷ 1 ∷ [])
+    ∷ is (membersCall 130 (1 ∷ 2 ^ 63 ∷ 2 ∷ []) (7 ∷ 7 ∷ 7 ∷ 7 ∷ [])) 0 3 (0 ∷ 127 ∷ 129 ∷ 7 ∷ [])
+    ∷ is (membersCall 130 (1 ∷ 2 ^ 63 ∷ 2 ∷ []) (7 ∷ 7 ∷ [])) 11 0 (7 ∷ 7 ∷ [])
+    ∷ []))
+unfolding bitAt has packed stored roomy sound
+rows = tt

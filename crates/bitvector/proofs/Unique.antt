@@ -1,0 +1,110 @@
+-- No room for a second answer: two outcomes that meet a call's promise are equal, the answer and every word of the store. Assumes nothing.
+use mathlib.Core.Path.{_≡_, refl, sym, ap, _∙_}
+use mathlib.Core.Bool.{cond}
+use mathlib.Core.List.{List}
+use Prim.Native.Nat.{ℕ}
+use native.Mathlib.Omega.{arith}
+use borrow.Author.Tests.{ne-eqb}
+use lib.Dec.{eqb}
+use Rattle.refusal.specs.Table.{numberOf}
+use Rattle.refusal.proofs.Apart.{caseOf, case-back, number-pos}
+use Rattle.refusal.specs.declared.Refusal.{Refusal}
+use Rattle.bitvector.specs.declared.Made.{Made}
+use Rattle.bitvector.specs.declared.Made.the-variants as M
+use Rattle.bitvector.specs.declared.Said.{Said}
+use Rattle.bitvector.specs.declared.Said.the-variants as S
+use Rattle.bitvector.specs.declared.Counted.{Counted}
+use Rattle.bitvector.specs.declared.Counted.the-variants as C
+use Rattle.bitvector.specs.Calls.{Outcome, made, said, counted, newCall, onesCall, isEmptyCall, lenCall, containsCall, insertCall, removeCall, insertAllCall, eqLeftCall, membersCall}
+
+-- whatever is answered and left in the store, if it is the outcome x, it is the same
+abbrev pub Once : (A : Type 0) → (A → List ℕ → Outcome) → Outcome → Type 0
+Once A f x = (a b : A) (us vs : List ℕ) → f a us ≡ x → f b vs ≡ x → (a ≡ b) × (us ≡ vs)
+
+-- for the answer and the store can be read back from the outcome
+once : (A : Type 0) (f : A → List ℕ → Outcome) (back : Outcome → A) → ((a : A) (ws : List ℕ) → back (f a ws) ≡ a)
+    → ((a : A) (ws : List ℕ) → f a ws .store ≡ ws) → (x : Outcome) → Once A f x
+once A f back answer store x a b us vs e g = (
+  sym (answer a us) ∙ ap back (e ∙ sym g) ∙ answer b vs,
+  sym (store a us) ∙ ap (λ (y : Outcome). y .store) (e ∙ sym g) ∙ store b vs,
+)
+
+-- a refusal has a number that is not 0
+refused : {A : Type 0} (r : Refusal) (a b : A) → cond (eqb (numberOf r) 0) a b ≡ b
+refused r a b = rw (ne-eqb (numberOf r) 0 (λ (e : numberOf r ≡ 0). omega (arith, number-pos r)))
+
+abbrev madeBack : Outcome → Made
+madeBack x = cond (eqb (x .refusal) 0) M.Done (M.Refused (caseOf (x .refusal) (x .value)))
+
+made-once : (x : Outcome) → Once Made made x
+made-once = once Made made madeBack answer store
+  where
+    answer : (a : Made) (ws : List ℕ) → madeBack (made a ws) ≡ a
+    answer M.Done ws = refl
+    answer (M.Refused r) ws = refused r _ _ ∙ ap M.Refused (case-back r)
+
+    store : (a : Made) (ws : List ℕ) → made a ws .store ≡ ws
+    store M.Done ws = refl
+    store (M.Refused r) ws = refl
+
+abbrev saidBack : Outcome → Said
+saidBack x = cond (eqb (x .refusal) 0) (cond (eqb (x .value) 0) S.No S.Yes) (S.Refused (caseOf (x .refusal) (x .value)))
+
+said-once : (x : Outcome) → Once Said said x
+said-once = once Said said saidBack answer store
+  where
+    answer : (a : Said) (ws : List ℕ) → saidBack (said a ws) ≡ a
+    answer S.Yes ws = refl
+    answer S.No ws = refl
+    answer (S.Refused r) ws = refused r _ _ ∙ ap S.Refused (case-back r)
+
+    store : (a : Said) (ws : List ℕ) → said a ws .store ≡ ws
+    store S.Yes ws = refl
+    store S.No ws = refl
+    store (S.Refused r) ws = refl
+
+abbrev countedBack : Outcome → Counted
+countedBack x = cond (eqb (x .refusal) 0) (C.Count (x .value)) (C.Refused (caseOf (x .refusal) (x .value)))
+
+counted-once : (x : Outcome) → Once Counted counted x
+counted-once = once Counted counted countedBack answer store
+  where
+    answer : (a : Counted) (ws : List ℕ) → countedBack (counted a ws) ≡ a
+    answer (C.Count n) ws = refl
+    answer (C.Refused r) ws = refused r _ _ ∙ ap C.Refused (case-back r)
+
+    store : (a : Counted) (ws : List ℕ) → counted a ws .store ≡ ws
+    store (C.Count n) ws = refl
+    store (C.Refused r) ws = refl
+
+-- ---- call by call
+
+pub new-once : (capacity : ℕ) (ws : List ℕ) → Once Made made (newCall capacity ws)
+new-once capacity ws = made-once (newCall capacity ws)
+
+pub ones-once : (capacity : ℕ) (ws : List ℕ) → Once Made made (onesCall capacity ws)
+ones-once capacity ws = made-once (onesCall capacity ws)
+
+pub is-empty-once : (capacity : ℕ) (ws : List ℕ) → Once Said said (isEmptyCall capacity ws)
+is-empty-once capacity ws = said-once (isEmptyCall capacity ws)
+
+pub len-once : (capacity : ℕ) (ws : List ℕ) → Once Counted counted (lenCall capacity ws)
+len-once capacity ws = counted-once (lenCall capacity ws)
+
+pub contains-once : (capacity : ℕ) (ws : List ℕ) (bit : ℕ) → Once Said said (containsCall capacity ws bit)
+contains-once capacity ws bit = said-once (containsCall capacity ws bit)
+
+pub insert-once : (capacity : ℕ) (ws : List ℕ) (bit : ℕ) → Once Said said (insertCall capacity ws bit)
+insert-once capacity ws bit = said-once (insertCall capacity ws bit)
+
+pub remove-once : (capacity : ℕ) (ws : List ℕ) (bit : ℕ) → Once Said said (removeCall capacity ws bit)
+remove-once capacity ws bit = said-once (removeCall capacity ws bit)
+
+pub insert-all-once : (capacity : ℕ) (ws : List ℕ) (capacity₂ : ℕ) (us : List ℕ) → Once Said said (insertAllCall capacity ws capacity₂ us)
+insert-all-once capacity ws capacity₂ us = said-once (insertAllCall capacity ws capacity₂ us)
+
+pub eq-left-once : (capacity : ℕ) (ws : List ℕ) (capacity₂ : ℕ) (us : List ℕ) (bit : ℕ) → Once Said said (eqLeftCall capacity ws capacity₂ us bit)
+eq-left-once capacity ws capacity₂ us bit = said-once (eqLeftCall capacity ws capacity₂ us bit)
+
+pub members-once : (capacity : ℕ) (ws out : List ℕ) → Once Counted counted (membersCall capacity ws out)
+members-once capacity ws out = counted-once (membersCall capacity ws out)

@@ -1,0 +1,39 @@
+-- `bitvector::insert_all` meets its contract. Assumes nothing.
+use borrow.Author.Needs.{needs}
+use borrow.Author.Tests.{ne-eqb}
+use mathlib.Core.Path.{_∙_}
+use native.Mathlib.Omega.{arith}
+use Rattle.bitvector.proofs.Soundness.{passed, failed, sound-room}
+use Rattle.bitvector.proofs.Agreement.{joined}
+use Rattle.bitvector.proofs.insert_all.Statement.{statement}
+use Rattle.bitvector.proofs.insert_all.Tie as tie
+
+pub insert-all-spec : {M : Type 1} → statement M
+insert-all-spec =
+    tie.close
+    (tie.spec
+    (λ c κs. search needs)
+    (λ c. search needs)
+    (λ c. rw (failed (c .before .is-sound .ensures) (c .if1 .taken)))
+    (λ c κs. search needs)
+    (λ c. search needs)
+    (λ c. rw (passed (c .before .before .before .is-sound .ensures) (c .before .before .if1 .left), failed (c .before .is-sound2 .ensures) (c .if2 .taken)))
+    (λ c. search needs)
+    (λ c.
+    let s = passed (c .before .before .before .before .is-sound .ensures) (c .before .before .before .if1 .left) in
+    let t = passed (c .before .before .is-sound2 .ensures) (c .before .if2 .left) in
+    rw (s, t, ne-eqb _ _ (c .if3 .taken)))
+    (λ c κs. sound-room _ _ (passed (c .before .before .before .before .before .is-sound .ensures) (c .before .before .before .before .if1 .left)) .bound)
+    (λ c κs.
+    let s = sound-room _ _ (passed (c .before .before .before .before .before .before .is-sound .ensures) (c .before .before .before .before .before .if1 .left)) in
+    let t = sound-room _ _ (passed (c .before .before .before .before .is-sound2 .ensures) (c .before .before .before .if2 .left)) in
+    omega arith)
+    (λ c κs. search needs)
+    (λ c. search needs)
+    (λ c.
+    let e = c .before .before .before .before .before .before .before in
+    let s = passed (e .before .before .before .is-sound .ensures) (e .before .before .if1 .left) in
+    let t = passed (e .before .is-sound2 .ensures) (e .if2 .left) in
+    let j = c .before .before .before .join .ensures in
+    c .yes-if .ensures _ ∙ rw (j .new, j .words, c .before .before .before .before .u64s .ensures)
+    (joined _ _ _ _ s t (c .before .before .before .before .before .before .if3 .left))))
