@@ -1,2 +1,5 @@
 pub mod Fits
 pub mod Finds
+pub mod Lists
+pub mod Marks
+pub mod Sent

@@ -3,3 +3,4 @@ pub mod Fit
 pub mod Lookup
 pub mod Index
 pub mod Build
+pub mod Rows

@@ -1,8 +1,10 @@
 // Build, lookup and row list (01's module 6): the public calls over an index in lent stores.
 mod finding;
 mod fitting;
+mod listing;
 
 pub use finding::Found;
 pub use finding::Place;
 pub use finding::lookup;
 pub use fitting::Head;
+pub use listing::rows;
