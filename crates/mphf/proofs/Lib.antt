@@ -3,3 +3,4 @@ pub mod Finds
 pub mod Lists
 pub mod Marks
 pub mod Sent
+pub mod RowCalls

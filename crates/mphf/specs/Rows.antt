@@ -73,15 +73,19 @@ check test number rows marks next = cond test next (record { refusal = number; v
 abbrev pub unmarked : ℕ → List ℕ → List ℕ
 unmarked count marks = zeros (wordsFor count) ++ drop (wordsFor count) marks
 
--- The row list of the ids in the row store, with the mark store to work in.
+-- The last check, and the row list of the ids: it stands at the front of the row store, and the rest of the store is as it was.
+unfoldable pub rowsBy : (ℕ → Option ℕ) → ℕ → List ℕ → List ℕ → List ℕ → Listing
+rowsBy row count ids rows marks =
+    check (eqb (length ids) count && apart row ids count) 12 rows (unmarked count marks)
+    (record { refusal = 0; value = 0; rows = listed row ids count ++ drop count rows; marks = unmarked count marks })
+
+-- The row list by lookup.
 unfoldable pub rowsCall : Head → List ℕ → List ℕ → List ℕ → List ℕ → List ℕ → Listing
 rowsCall head ws ss ids rows marks =
     let count = head .count in
-    let row : ℕ → Option ℕ = λ x. rowIn (lookupCall head ws ss x) in
     check (fit count (head .levels) (head .sizes) (length ws) (length ss)) 7 rows marks
     (check (leb count (length rows) && leb (wordsFor count) (length marks)) 11 rows marks
-    (check (eqb (length ids) count && apart row ids count) 12 rows (unmarked count marks)
-    (record { refusal = 0; value = 0; rows = listed row ids count ++ drop count rows; marks = unmarked count marks })))
+    (rowsBy (λ x. rowIn (lookupCall head ws ss x)) count ids rows marks))
 
 -- ---- the steps of the call
 

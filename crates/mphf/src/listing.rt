@@ -4,7 +4,7 @@ ghost use Prim.Native.Nat.{_≤_};
 ghost use lib.ListN.{length};
 ghost use Rattle.laws.specs.Bits.{wordsFor};
 ghost use Rattle.mphf.specs.Fit.{Fit};
-ghost use Rattle.mphf.specs.Rows.{listing, rowsCall, rowBy, Marked, Checked, Unmarked, withId, withIds};
+ghost use Rattle.mphf.specs.Rows.{listing, rowsCall, rowsBy, rowBy, Marked, Checked, Unmarked, withId, withIds};
 use crate::finding::Found;
 use crate::finding::find;
 use crate::fitting::Head;
@@ -16,8 +16,15 @@ use bitvector::u64s;
 use bounds::MAX_LEVELS;
 use refusal::Refusal;
 
-// Writes each id at its row, once it is known that they fill the rows one for one. The marks are to work in.
-pub fn rows(head: Head, words: &[u64], samples: &[u64], ids: &[u64], rows: &mut [u64], marks: &mut [u64]) -> Made
+// The row list. The marks are to work in.
+pub fn rows(
+    head: Head,
+    words: &[u64],
+    samples: &[u64],
+    ids: &[u64],
+    rows: &mut [u64],
+    marks: &mut [u64],
+) -> Made
     ensures { λ r. ⌜ listing r (now (rows .exit)) (now (marks .exit)) ≡ rowsCall head (now (words .entry)) (now (samples .entry)) (now (ids .entry)) (now (rows .entry)) (now (marks .entry)) ⌝ }
 {
     let sizes = head.sizes;
@@ -27,20 +34,46 @@ pub fn rows(head: Head, words: &[u64], samples: &[u64], ids: &[u64], rows: &mut 
     if (rows.len() as u64) < head.count {
         return Made::Refused(Refusal::ShortOutput);
     }
-    let need = u64s(head.count) as usize;
-    if marks.len() < need {
+    if (marks.len() as u64) < u64s(head.count) {
         return Made::Refused(Refusal::ShortOutput);
     }
+    list_rows(
+        head.count,
+        head.levels,
+        &sizes,
+        words,
+        samples,
+        ids,
+        rows,
+        marks,
+    )
+}
+
+// The row list, in stores that are long enough: no row is written before it is known that the ids fill the rows one for one.
+fn list_rows(
+    count: u64,
+    levels: u64,
+    sizes: &[u64; MAX_LEVELS],
+    words: &[u64],
+    samples: &[u64],
+    ids: &[u64],
+    rows: &mut [u64],
+    marks: &mut [u64],
+) -> Made
+    requires { ⌜ Fit count levels (now sizes) (length (now words)) (length (now samples)) ⌝ ∗ ⌜ count ≤ length (now rows) ⌝ ∗ ⌜ wordsFor count ≤ length (now marks) ⌝ }
+    ensures { λ r. ⌜ listing r (now (rows .exit)) (now (marks .exit)) ≡ rowsBy (rowBy count levels (now (sizes .entry)) (now (words .entry)) (now (samples .entry))) count (now (ids .entry)) (now (rows .entry)) (now (marks .entry)) ⌝ }
+{
+    let need = u64s(count) as usize;
     fill(marks, need, 0);
-    if ids.len() as u64 != head.count {
+    if ids.len() as u64 != count {
         return Made::Refused(Refusal::WrongIds);
     }
-    let apart = are_apart(head.count, head.levels, &sizes, words, samples, ids, marks);
+    let apart = are_apart(count, levels, sizes, words, samples, ids, marks);
     fill(marks, need, 0);
     if !apart {
         return Made::Refused(Refusal::WrongIds);
     }
-    write_rows(head.count, head.levels, &sizes, words, samples, ids, rows);
+    write_rows(count, levels, sizes, words, samples, ids, rows);
     Made::Done
 }
 

@@ -40,9 +40,12 @@ are-apart-spec =
     (λ c. omega arith)
     (λ c.
     let l = c .before .before .before .before .before .before .before .loop in
-    let a = c .before .before .before .before .before .before .before .before .before .before .before .before .args in
-    (omega arith, l .inv .1, omega arith,
-    marking-more _ _ (row-below (a .count) (a .levels) (a .sizes .now) (a .words .now) (a .samples .now)) _ _ _ (l .i) (omega arith) (l .inv .3) _ _ (omega arith) (c .before .before .before .mark-row .ensures)
-    (not-false (c .before .before .before .mark-row .result) (c .if1 .left))))
+    let a = c .before .before .before .before .before .before .before .before .before .before .before .before .args in (
+      omega arith,
+      l .inv .1,
+      omega arith,
+      marking-more _ _ (row-below (a .count) (a .levels) (a .sizes .now) (a .words .now) (a .samples .now)) _ _ _ (l .i) (omega arith) (l .inv .3) _ _ (omega arith) (c .before .before .before .mark-row .ensures)
+          (not-false (c .before .before .before .mark-row .result) (c .if1 .left)),
+    ))
     (λ c. omega arith)
     (λ c. marking-all _ _ _ _ _ (c .before .loop .i) (omega arith) (c .before .loop .inv .3)))
