@@ -2,7 +2,7 @@
 -- the ids written at their rows in turn leave the row list. Assumes nothing.
 use mathlib.Core.Path.{_≡_, refl, sym, ap, ap₂, _∙_}
 use mathlib.Core.Logic.{inl, inr}
-use mathlib.Core.Bool.{Bool, true, false, not, cond, _||_, _&&_, false≢true}
+use mathlib.Core.Bool.{Bool, true, false, cond}
 use mathlib.Core.List.{List, [], _∷_, _++_}
 use mathlib.Core.Option.{Option, none, some}
 use Prim.Native.Nat.{ℕ, zero, suc, _+_, _-_, _*_, _≤_, _<_, zero-le}
@@ -10,19 +10,18 @@ use native.Mathlib.Nat.{add-zero, one-mul, eq-or-lt-of-le, le-of-suc-le-suc}
 use native.Mathlib.Numerals.{add-one}
 use native.Mathlib.Decide.{ℕ-discrete}
 use native.Mathlib.Omega.{arith}
-use borrow.Author.Tests.{eqb-true, eq-eqb, ne-eqb, leb-false, le-leb, lt-leb, not-true, not-false}
+use borrow.Author.Tests.{eqb-true, eq-eqb, ne-eqb, leb-false, lt-leb}
 use lib.Dec.{eqb, leb}
-use lib.ListN.{length, getD, set, take, drop, length-append, length-take, length-set, take-append-drop}
-use lib.Seq.{drop-cons, drop-length, take-length, length-take-le, drop-set-lt, getD-set-same, getD-set-other, getD-take, ext-getD}
-use Rattle.laws.specs.Counting.{one, total, sum, rank, tally, sift, blocks}
-use Rattle.laws.specs.Bits.{has, wordsFor, withBit}
+use lib.ListN.{length, getD, set, take, drop, length-set, take-append-drop}
+use lib.Seq.{drop-cons, drop-length, length-take-le, drop-set-lt, getD-set-same, getD-set-other, getD-take, ext-getD}
+use Rattle.laws.specs.Counting.{one, sum, rank, sift}
 use Rattle.laws.proofs.Cases.{both, one-lt}
-use Rattle.laws.proofs.Sums.{sum-zero, sum-add, sum-same, sum-point, rank-lt}
-use Rattle.laws.proofs.Counts.{total-append, total-take, length-sift}
+use Rattle.laws.proofs.Sums.{sum-zero, sum-add, sum-same, sum-point}
+use Rattle.laws.proofs.Counts.{length-sift}
 use Rattle.laws.proofs.Blocks.{length-blocks, blocks-at}
 use Rattle.laws.proofs.Ranks.{sum-ones, rank-none, none-rank}
-use Rattle.laws.proofs.Words.{with-put, put-drop, with-has}
-use Rattle.mphf.specs.Rows.{isNone, isRow, rowless, sent, apart, listed, isNew, withRow, Unmarked, withId, withIds}
+use Rattle.mphf.specs.Rows.{isNone, isRow, rowless, sent, apart, listed}
+use Rattle.mphf.specs.Passes.{withId, withIds}
 
 -- ---- numbers of which none is above 1, and which are 1 on average, are all 1
 
@@ -160,7 +159,13 @@ module _ (row : ℕ → Option ℕ) (count : ℕ) (below : (x r : ℕ) → row x
         getD-take count us k 0 m ∙ writes-at ids rows k (omega arith) ∙ only (getD rows k 0) (sentTo ids k) (lone k m) ∙ sym (listed-at k m)) in
         sym (take-append-drop count us) ∙ ap₂ (λ (xs ys : List ℕ). xs ++ ys) front (writes-past ids rows)
 
--- ---- what is left to write, in the loop
+-- ---- the same in code: one id, and what is left of the ids
+
+pub write-none : (row : Option ℕ) (x : ℕ) (rows : List ℕ) → row ≡ none → rows ≡ withId row x rows
+write-none row x rows e = ap (λ (o : Option ℕ). withId o x rows) (sym e)
+
+pub write-some : (row : Option ℕ) (x : ℕ) (rows : List ℕ) (r : ℕ) → row ≡ some r → set rows r x ≡ withId row x rows
+write-some row x rows r e = ap (λ (o : Option ℕ). withId o x rows) (sym e)
 
 module _ (row : ℕ → Option ℕ) (ids start rows : List ℕ) (i : ℕ) (whole : withIds row (drop i ids) rows ≡ withIds row ids start) where
   pub writes-more : (after : List ℕ) → i < length ids → after ≡ withId (row (getD ids i 0)) (getD ids i 0) rows

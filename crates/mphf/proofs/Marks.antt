@@ -18,7 +18,8 @@ use Rattle.laws.specs.Bits.{has, wordsFor, withBit}
 use Rattle.laws.proofs.Counts.{total-append, total-take}
 use Rattle.laws.proofs.Words.{with-put, put-drop, with-has}
 use Rattle.bitvector.specs.Steps.{Step}
-use Rattle.mphf.specs.Rows.{isNone, isRow, rowless, sent, apart, isNew, withRow, Marked, Checked, Unmarked}
+use Rattle.mphf.specs.Rows.{isNone, isRow, rowless, sent}
+use Rattle.mphf.specs.Passes.{isNew, withRow, Marked, Checked, Clear}
 use Rattle.mphf.proofs.Lists.{apart-known, apart-is, not-apart}
 
 -- ---- one id: no row, or a row with its bit
@@ -41,7 +42,7 @@ pub record Marking (row : ℕ → Option ℕ) (count : ℕ) (marks passed now : 
   pub each : (k : ℕ) → k < count → one (has now k) ≡ sent row passed k
   pub past : drop (wordsFor count) now ≡ drop (wordsFor count) marks
 
-pub marking-none : (row : ℕ → Option ℕ) (count : ℕ) (marks : List ℕ) → Unmarked count marks → Marking row count marks [] marks
+pub marking-none : (row : ℕ → Option ℕ) (count : ℕ) (marks : List ℕ) → Clear count marks → Marking row count marks [] marks
 marking-none row count marks u = record { all-rows = refl; each = λ k l. ap one (u .clear k l); past = refl }
 
 -- one row more

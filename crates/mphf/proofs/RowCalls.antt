@@ -1,9 +1,9 @@
 -- The call `rows`, case by case. Assumes nothing.
-use mathlib.Core.Path.{_≡_, refl, sym, ap, _∙_, fun-ext}
+use mathlib.Core.Path.{_≡_, ap, _∙_, fun-ext}
 use mathlib.Core.Bool.{true, false}
 use mathlib.Core.List.{List, _++_}
 use mathlib.Core.Option.{Option, some}
-use Prim.Native.Nat.{ℕ, _*_, _/_, _≤_, _<_}
+use Prim.Native.Nat.{ℕ, _/_, _≤_, _<_}
 use native.Mathlib.Nat.{zero-div}
 use native.Mathlib.Omega.{arith}
 use borrow.Author.Tests.{eq-eqb, ne-eqb, le-leb, lt-leb}
@@ -15,7 +15,8 @@ use Rattle.refusal.specs.declared.Refusal.the-variants.{UnfitHead, ShortOutput,
 use Rattle.bitvector.specs.declared.Made.the-variants as M
 use Rattle.mphf.specs.Layout.{fit}
 use Rattle.mphf.specs.Index.{zeros}
-use Rattle.mphf.specs.Rows.{apart, listing, Listing, unmarked, rowsBy, rowsCall, rowIn, rowBy, Unmarked, withIds}
+use Rattle.mphf.specs.Rows.{apart, listing, clearMarks, rowIn, rowsBy, rowsCall}
+use Rattle.mphf.specs.Passes.{rowBy, Clear, withIds}
 use Rattle.mphf.specs.declared.fitting.Head.{Head}
 use Rattle.mphf.proofs.Finds.{lookup-fit}
 use Rattle.mphf.proofs.Lists.{all-listed}
@@ -23,30 +24,30 @@ use Rattle.mphf.proofs.Lists.{all-listed}
 -- ---- the marks, cleared
 
 module _ (count : ℕ) (marks : List ℕ) where
-  pub unmarked-clear : Unmarked count (unmarked count marks)
-  unmarked-clear = record {
+  pub marks-clear : Clear count (clearMarks count marks)
+  marks-clear = record {
     clear = λ k l.
         let n : ℕ = wordsFor count in
-        let z : getD (unmarked count marks) (k / 64) 0 ≡ 0 =
+        let z : getD (clearMarks count marks) (k / 64) 0 ≡ 0 =
         List·getD-append (zeros n) (drop n marks) 0 (k / 64) (rw (length-replicate {A = ℕ} n 0) (omega arith)) ∙ getD-replicate n (k / 64) 0 0 (omega arith) in
-        has-clear (unmarked count marks) k (λ d. let e = rw (z, zero-div) at d in omega arith);
+        has-clear (clearMarks count marks) k (λ d. let e = rw (z, zero-div) at d in omega arith);
   }
 
-  unmarked-past : drop (wordsFor count) (unmarked count marks) ≡ drop (wordsFor count) marks
-  unmarked-past = drop-at (zeros (wordsFor count)) _ (wordsFor count) (length-replicate (wordsFor count) 0)
+  marks-past : drop (wordsFor count) (clearMarks count marks) ≡ drop (wordsFor count) marks
+  marks-past = drop-at (zeros (wordsFor count)) _ (wordsFor count) (length-replicate (wordsFor count) 0)
 
-  pub clears : (need : ℕ) (once : List ℕ) → need ≡ wordsFor count → once ≡ replicate need 0 ++ drop need marks → once ≡ unmarked count marks
+  pub clears : (need : ℕ) (once : List ℕ) → need ≡ wordsFor count → once ≡ replicate need 0 ++ drop need marks → once ≡ clearMarks count marks
   clears need once n e = e ∙ ap (λ (k : ℕ). replicate k 0 ++ drop k marks) n
 
   -- once more, after a change of the needed ones only
-  pub clears-again : (need : ℕ) (used again : List ℕ) → need ≡ wordsFor count → drop (wordsFor count) used ≡ drop (wordsFor count) (unmarked count marks)
-      → again ≡ replicate need 0 ++ drop need used → again ≡ unmarked count marks
+  pub clears-again : (need : ℕ) (used again : List ℕ) → need ≡ wordsFor count → drop (wordsFor count) used ≡ drop (wordsFor count) (clearMarks count marks)
+      → again ≡ replicate need 0 ++ drop need used → again ≡ clearMarks count marks
   clears-again need used again n p e =
-      e ∙ ap (λ (k : ℕ). replicate k 0 ++ drop k used) n ∙ ap (λ (l : List ℕ). zeros (wordsFor count) ++ l) (p ∙ unmarked-past)
+      e ∙ ap (λ (k : ℕ). replicate k 0 ++ drop k used) n ∙ ap (λ (l : List ℕ). zeros (wordsFor count) ++ l) (p ∙ marks-past)
 
 -- ---- the last check, and the row list
 
-module _ (row : ℕ → Option ℕ) (count : ℕ) (ids rows marks after : List ℕ) (clear : after ≡ unmarked count marks) where
+module _ (row : ℕ → Option ℕ) (count : ℕ) (ids rows marks after : List ℕ) (clear : after ≡ clearMarks count marks) where
   pub wrong-number : (length ids ≡ count → ⊥) → listing (M.Refused WrongIds) rows after ≡ rowsBy row count ids rows marks
   unfolding rowsBy
   wrong-number n = rw (clear, ne-eqb (length ids) count n)
@@ -60,7 +61,7 @@ module _ (row : ℕ → Option ℕ) (count : ℕ) (ids rows marks after : List �
   unfolding rowsBy
   right-ids below room n e store w =
       rw (clear, eq-eqb (length ids) count n, e)
-      (ap (λ (l : List ℕ). listing M.Done l (unmarked count marks)) (w ∙ all-listed row count below ids rows n e room))
+      (ap (λ (l : List ℕ). listing M.Done l (clearMarks count marks)) (w ∙ all-listed row count below ids rows n e room))
 
 -- ---- the checks before
 
@@ -82,7 +83,7 @@ module _ (head : Head) (ws ss ids rows marks : List ℕ) where
 
     pub stores-fit : head .count ≤ length rows → wordsFor (head .count) ≤ length marks
         → rowsBy (rowBy (head .count) (head .levels) (head .sizes) ws ss) (head .count) ids rows marks ≡ rowsCall head ws ss ids rows marks
-    unfolding rowsCall
+    unfolding rowsCall rowBy
     stores-fit h l =
         rw (e, le-leb (head .count) (length rows) h, le-leb (wordsFor (head .count)) (length marks) l)
         (ap (λ (row : ℕ → Option ℕ). rowsBy row (head .count) ids rows marks) (fun-ext (λ x. ap rowIn (lookup-fit head ws ss x e))))

@@ -1,4 +1,4 @@
--- The row of an id by a lookup: it is below the count, and the answer of `find` tells it. Assumes nothing.
+-- The row of a number by lookup: it is below the count, and the answer of `find` tells it. Assumes nothing.
 use mathlib.Core.Path.{_≡_, refl, sym, ap, _∙_}
 use mathlib.Core.Logic.{_⊎_, inl, inr}
 use mathlib.Core.Bool.{Bool, true, false, cond, _&&_}
@@ -17,8 +17,9 @@ use Rattle.mixer.specs.Position.{position}
 use Rattle.ranks.specs.Ranks.{onesFrom}
 use Rattle.rule.specs.Rule.{first}
 use Rattle.mphf.specs.Layout.{sizeAt, levelWords}
-use Rattle.mphf.specs.Lookup.{Answer, found, refused, answerOf, rowAnswer, levelAnswer, findIn}
-use Rattle.mphf.specs.Rows.{rowIn, rowBy}
+use Rattle.mphf.specs.Lookup.{found, refused, answerOf, rowAnswer, levelAnswer, findIn}
+use Rattle.mphf.specs.Rows.{rowIn}
+use Rattle.mphf.specs.Passes.{rowBy}
 use Rattle.mphf.specs.declared.finding.Place.{Place}
 use Rattle.mphf.specs.declared.finding.Found.{Found}
 use Rattle.mphf.specs.declared.finding.Found.the-variants as F
@@ -33,28 +34,43 @@ answer-below count ws ss i p r e =
     let at : ℕ = sample + onesFrom ws p in
     go at (leb sample maxIds && ltb at count) (λ t. ltb-true at count (both (leb sample maxIds) (ltb at count) t .1)) e
   where
-    go : (at : ℕ) (b : Bool) → (b ≡ true → at < count) → rowIn (cond b (found (record { row = at; level = i; position = p })) (refused 8 0)) ≡ some r → r < count
+    go : (at : ℕ) (b : Bool) → (b ≡ true → at < count) → rowIn (cond b (found (record { row = at; level = i; position = p })) (refused 8 0)) ≡ some r
+        → r < count
     go at true h q = let z : at ≡ r = cc in omega (arith, h refl)
     go at false h q = let z : _≡_ {A = ℕ} 0 1 = cc in absurd (omega arith)
 
-pub row-below : (count levels : ℕ) (sizes ws ss : List ℕ) (x r : ℕ) → rowBy count levels sizes ws ss x ≡ some r → r < count
+found-below : (count : ℕ) (span : ℕ → ℕ) (ws ss : List ℕ) (x levels r : ℕ) → rowIn (findIn count span ws ss x levels) ≡ some r → r < count
 unfolding findIn
-row-below count levels sizes ws ss x r e = go (first position (sizeAt sizes) (λ i. has (levelWords (sizeAt sizes) ws i)) levels 0 x) e
+found-below count span ws ss x levels r e = go (first position span (λ i. has (levelWords span ws i)) levels 0 x) e
   where
-    go : (o : Option ℕ) → rowIn (levelAnswer count (sizeAt sizes) ws ss x o) ≡ some r → r < count
+    go : (o : Option ℕ) → rowIn (levelAnswer count span ws ss x o) ≡ some r → r < count
     go none q = let z : _≡_ {A = ℕ} 0 1 = cc in absurd (omega arith)
     go (some i) q = answer-below count _ _ i _ r q
 
--- ---- the answer of `find`, as a case of the enum
+pub row-below : (count levels : ℕ) (sizes ws ss : List ℕ) (x r : ℕ) → rowBy count levels sizes ws ss x ≡ some r → r < count
+unfolding rowBy
+row-below count levels sizes ws ss x r e = found-below count (sizeAt sizes) ws ss x levels r e
 
-pub row-told : (f : Found) (a : Answer) (p : Place) → answerOf f ≡ a → f ≡ F.Row p → rowIn a ≡ some (p .row)
-row-told f a p e q = ap rowIn (sym e) ∙ ap (λ (g : Found). rowIn (answerOf g)) q
+-- ---- the row, by the answer of `find`: a case of the enum
 
-pub none-told : (f : Found) (a : Answer) → answerOf f ≡ a → (tagOf the-type f ≡ 1) ⊎ (tagOf the-type f ≡ 2) → rowIn a ≡ none
-none-told f a e t = ap rowIn (sym e) ∙ go f t
-  where
-    go : (g : Found) → (tagOf the-type g ≡ 1) ⊎ (tagOf the-type g ≡ 2) → rowIn (answerOf g) ≡ none
-    go (F.Row p) (inl q) = absurd (omega arith)
-    go (F.Row p) (inr q) = absurd (omega arith)
-    go F.None q = refl
-    go (F.Refused r) q = refl
+told : (f : Found) (p : Place) → f ≡ F.Row p → rowIn (answerOf f) ≡ some (p .row)
+told f p q = ap (λ (g : Found). rowIn (answerOf g)) q
+
+not-told : (f : Found) → (tagOf the-type f ≡ 1) ⊎ (tagOf the-type f ≡ 2) → rowIn (answerOf f) ≡ none
+not-told (F.Row p) (inl q) = absurd (omega arith)
+not-told (F.Row p) (inr q) = absurd (omega arith)
+not-told F.None q = refl
+not-told (F.Refused r) q = refl
+
+pub told-below : (count : ℕ) (span : ℕ → ℕ) (ws ss : List ℕ) (x levels : ℕ) (f : Found) (p : Place) → answerOf f ≡ findIn count span ws ss x levels
+    → f ≡ F.Row p → p .row < count
+told-below count span ws ss x levels f p e q = found-below count span ws ss x levels (p .row) (ap rowIn (sym e) ∙ told f p q)
+
+module _ (count levels : ℕ) (sizes ws ss : List ℕ) (x : ℕ) (f : Found) (e : answerOf f ≡ findIn count (sizeAt sizes) ws ss x levels) where
+  pub row-told : (p : Place) → f ≡ F.Row p → rowBy count levels sizes ws ss x ≡ some (p .row)
+  unfolding rowBy
+  row-told p q = ap rowIn (sym e) ∙ told f p q
+
+  pub none-told : (tagOf the-type f ≡ 1) ⊎ (tagOf the-type f ≡ 2) → rowBy count levels sizes ws ss x ≡ none
+  unfolding rowBy
+  none-told t = ap rowIn (sym e) ∙ not-told f t

@@ -4,3 +4,4 @@ pub mod Lookup
 pub mod Index
 pub mod Build
 pub mod Rows
+pub mod Passes

@@ -1,22 +1,21 @@
 -- A row list: 01's checks in their order, then at each row the id that lookup sends there.
-use Prim.Native.Nat.{ℕ, _<_}
-use mathlib.Core.Path.{_≡_}
-use mathlib.Core.Bool.{Bool, true, false, not, cond, _&&_}
-use mathlib.Core.List.{List, [], _∷_, _++_}
+use Prim.Native.Nat.{ℕ}
+use mathlib.Core.Bool.{Bool, true, false, cond, _&&_}
+use mathlib.Core.List.{List, _++_}
 use mathlib.Core.Option.{Option, none, some}
 use lib.Dec.{eqb, leb}
-use lib.ListN.{length, set, drop}
+use lib.ListN.{length, drop}
 use Rattle.laws.specs.Counting.{tally, rank, sift, blocks}
-use Rattle.laws.specs.Bits.{has, wordsFor, withBit}
+use Rattle.laws.specs.Bits.{wordsFor}
 use Rattle.refusal.specs.Table.{numberOf, valueOf}
 use Rattle.bitvector.specs.declared.Made.{Made}
 use Rattle.bitvector.specs.declared.Made.the-variants as M
-use Rattle.mphf.specs.Layout.{sizeAt, fit}
-use Rattle.mphf.specs.Lookup.{Answer, found, nothing, refused, findIn, lookupCall}
+use Rattle.mphf.specs.Layout.{fit}
+use Rattle.mphf.specs.Lookup.{Answer, found, nothing, refused, lookupCall}
 use Rattle.mphf.specs.Index.{zeros}
 use Rattle.mphf.specs.declared.fitting.Head.{Head}
 
--- ---- the row of an id, if it has one
+-- ---- the row of an id
 
 -- the row of a lookup's answer; a refused lookup counts as no row
 abbrev pub rowIn : Answer → Option ℕ
@@ -33,7 +32,7 @@ abbrev pub isRow : ℕ → Option ℕ → Bool
 isRow k none = false
 isRow k (some r) = eqb r k
 
--- ---- the rows of some ids, where `row` sends each number to its row
+-- ---- the rows of some ids, where `row` sends each number to its row, if it has one
 
 module _ (row : ℕ → Option ℕ) (ids : List ℕ) where
   -- how many ids have no row, and how many are sent to row k
@@ -65,61 +64,24 @@ abbrev pub listing : Made → List ℕ → List ℕ → Listing
 listing M.Done rows marks = record { refusal = 0; value = 0; rows = rows; marks = marks }
 listing (M.Refused r) rows marks = record { refusal = numberOf r; value = valueOf r; rows = rows; marks = marks }
 
--- a check in its turn: where it fails, its number, the rows as they were, and these marks
+-- a check in its turn: where it fails, its number, and these stores
 abbrev pub check : Bool → ℕ → List ℕ → List ℕ → Listing → Listing
 check test number rows marks next = cond test next (record { refusal = number; value = 0; rows = rows; marks = marks })
 
--- the mark store with the needed marks 0
-abbrev pub unmarked : ℕ → List ℕ → List ℕ
-unmarked count marks = zeros (wordsFor count) ++ drop (wordsFor count) marks
+-- the mark store with the needed marks 0, and the others as they were
+abbrev pub clearMarks : ℕ → List ℕ → List ℕ
+clearMarks count marks = zeros (wordsFor count) ++ drop (wordsFor count) marks
 
--- The last check, and the row list of the ids: it stands at the front of the row store, and the rest of the store is as it was.
+-- The last check, and the row list at the front of the row store, where the rest is as it was.
 unfoldable pub rowsBy : (ℕ → Option ℕ) → ℕ → List ℕ → List ℕ → List ℕ → Listing
 rowsBy row count ids rows marks =
-    check (eqb (length ids) count && apart row ids count) 12 rows (unmarked count marks)
-    (record { refusal = 0; value = 0; rows = listed row ids count ++ drop count rows; marks = unmarked count marks })
+    check (eqb (length ids) count && apart row ids count) 12 rows (clearMarks count marks)
+    (record { refusal = 0; value = 0; rows = listed row ids count ++ drop count rows; marks = clearMarks count marks })
 
--- The row list by lookup.
+-- The row list of the ids by lookup.
 unfoldable pub rowsCall : Head → List ℕ → List ℕ → List ℕ → List ℕ → List ℕ → Listing
 rowsCall head ws ss ids rows marks =
     let count = head .count in
     check (fit count (head .levels) (head .sizes) (length ws) (length ss)) 7 rows marks
     (check (leb count (length rows) && leb (wordsFor count) (length marks)) 11 rows marks
     (rowsBy (λ x. rowIn (lookupCall head ws ss x)) count ids rows marks))
-
--- ---- the steps of the call
-
--- the row by the numbers of a head that fits
-abbrev pub rowBy : ℕ → ℕ → List ℕ → List ℕ → List ℕ → ℕ → Option ℕ
-rowBy count levels sizes ws ss x = rowIn (findIn count (sizeAt sizes) ws ss x levels)
-
--- whether there is a row that is not marked yet, and the marks with it
-abbrev pub isNew : Option ℕ → List ℕ → Bool
-isNew none marks = false
-isNew (some r) marks = not (has marks r)
-
-abbrev pub withRow : Option ℕ → List ℕ → List ℕ
-withRow none marks = marks
-withRow (some r) marks = withBit marks r
-
-pub record Marked (row : Option ℕ) (marks : List ℕ) (told : Bool) (after : List ℕ) : Type 0 where
-  pub new : told ≡ isNew row marks
-  pub marks-are : after ≡ withRow row marks
-
--- the check of all ids: it is told whether they are apart, and no mark past the needed ones changes
-pub record Checked (row : ℕ → Option ℕ) (ids : List ℕ) (count : ℕ) (marks : List ℕ) (told : Bool) (after : List ℕ) : Type 0 where
-  pub are-apart : told ≡ apart row ids count
-  pub past : drop (wordsFor count) after ≡ drop (wordsFor count) marks
-
--- no row below the count is marked
-pub record Unmarked (count : ℕ) (marks : List ℕ) : Type 0 where
-  pub clear : (k : ℕ) → k < count → has marks k ≡ false
-
--- the row store with an id at its row, and with each id at its row in turn
-abbrev pub withId : Option ℕ → ℕ → List ℕ → List ℕ
-withId none x rows = rows
-withId (some r) x rows = set rows r x
-
-unfoldable pub withIds : (ℕ → Option ℕ) → List ℕ → List ℕ → List ℕ
-withIds row [] rows = rows
-withIds row (x ∷ xs) rows = withIds row xs (withId (row x) x rows)

@@ -4,7 +4,8 @@ ghost use Prim.Native.Nat.{_≤_};
 ghost use lib.ListN.{length};
 ghost use Rattle.laws.specs.Bits.{wordsFor};
 ghost use Rattle.mphf.specs.Fit.{Fit};
-ghost use Rattle.mphf.specs.Rows.{listing, rowsCall, rowsBy, rowBy, Marked, Checked, Unmarked, withId, withIds};
+ghost use Rattle.mphf.specs.Rows.{listing, rowsBy, rowsCall};
+ghost use Rattle.mphf.specs.Passes.{rowBy, Clear, Marked, Checked, withId, withIds};
 use crate::finding::Found;
 use crate::finding::find;
 use crate::fitting::Head;
@@ -16,7 +17,7 @@ use bitvector::u64s;
 use bounds::MAX_LEVELS;
 use refusal::Refusal;
 
-// The row list. The marks are to work in.
+// Lists the ids at their rows. The marks are to work in.
 pub fn rows(
     head: Head,
     words: &[u64],
@@ -25,7 +26,8 @@ pub fn rows(
     rows: &mut [u64],
     marks: &mut [u64],
 ) -> Made
-    ensures { λ r. ⌜ listing r (now (rows .exit)) (now (marks .exit)) ≡ rowsCall head (now (words .entry)) (now (samples .entry)) (now (ids .entry)) (now (rows .entry)) (now (marks .entry)) ⌝ }
+    ensures { λ r. ⌜ listing r (now (rows .exit)) (now (marks .exit))
+        ≡ rowsCall head (now (words .entry)) (now (samples .entry)) (now (ids .entry)) (now (rows .entry)) (now (marks .entry)) ⌝ }
 {
     let sizes = head.sizes;
     if !is_fit(head.count, head.levels, &sizes, words.len(), samples.len()) {
@@ -49,7 +51,7 @@ pub fn rows(
     )
 }
 
-// The row list, in stores that are long enough: no row is written before it is known that the ids fill the rows one for one.
+// The same, in stores that are long enough: no row is written before it is known that the ids fill the rows one for one.
 fn list_rows(
     count: u64,
     levels: u64,
@@ -60,8 +62,11 @@ fn list_rows(
     rows: &mut [u64],
     marks: &mut [u64],
 ) -> Made
-    requires { ⌜ Fit count levels (now sizes) (length (now words)) (length (now samples)) ⌝ ∗ ⌜ count ≤ length (now rows) ⌝ ∗ ⌜ wordsFor count ≤ length (now marks) ⌝ }
-    ensures { λ r. ⌜ listing r (now (rows .exit)) (now (marks .exit)) ≡ rowsBy (rowBy count levels (now (sizes .entry)) (now (words .entry)) (now (samples .entry))) count (now (ids .entry)) (now (rows .entry)) (now (marks .entry)) ⌝ }
+    requires { ⌜ Fit count levels (now sizes) (length (now words)) (length (now samples)) ⌝ }
+    requires { ⌜ count ≤ length (now rows) ⌝ ∗ ⌜ wordsFor count ≤ length (now marks) ⌝ }
+    ensures { λ r. ⌜ listing r (now (rows .exit)) (now (marks .exit))
+        ≡ rowsBy (rowBy count levels (now (sizes .entry)) (now (words .entry)) (now (samples .entry)))
+        count (now (ids .entry)) (now (rows .entry)) (now (marks .entry)) ⌝ }
 {
     let need = u64s(count) as usize;
     fill(marks, need, 0);
@@ -87,8 +92,10 @@ fn are_apart(
     ids: &[u64],
     marks: &mut [u64],
 ) -> bool
-    requires { ⌜ Fit count levels (now sizes) (length (now words)) (length (now samples)) ⌝ ∗ ⌜ wordsFor count ≤ length (now marks) ⌝ ∗ ⌜ Unmarked count (now marks) ⌝ }
-    ensures { λ r. ⌜ Checked (rowBy count levels (now (sizes .entry)) (now (words .entry)) (now (samples .entry))) (now (ids .entry)) count (now (marks .entry)) r (now (marks .exit)) ⌝ }
+    requires { ⌜ Fit count levels (now sizes) (length (now words)) (length (now samples)) ⌝ }
+    requires { ⌜ wordsFor count ≤ length (now marks) ⌝ ∗ ⌜ Clear count (now marks) ⌝ }
+    ensures { λ r. ⌜ Checked (rowBy count levels (now (sizes .entry)) (now (words .entry)) (now (samples .entry)))
+        (now (ids .entry)) count (now (marks .entry)) r (now (marks .exit)) ⌝ }
 {
     for i in 0..ids.len() {
         if !mark_row(count, levels, sizes, words, samples, ids[i], marks) {
@@ -108,8 +115,10 @@ fn mark_row(
     id: u64,
     marks: &mut [u64],
 ) -> bool
-    requires { ⌜ Fit count levels (now sizes) (length (now words)) (length (now samples)) ⌝ ∗ ⌜ wordsFor count ≤ length (now marks) ⌝ }
-    ensures { λ r. ⌜ Marked (rowBy count levels (now (sizes .entry)) (now (words .entry)) (now (samples .entry)) id) (now (marks .entry)) r (now (marks .exit)) ⌝ }
+    requires { ⌜ Fit count levels (now sizes) (length (now words)) (length (now samples)) ⌝ }
+    requires { ⌜ wordsFor count ≤ length (now marks) ⌝ }
+    ensures { λ r. ⌜ Marked (rowBy count levels (now (sizes .entry)) (now (words .entry)) (now (samples .entry)) id)
+        (now (marks .entry)) r (now (marks .exit)) ⌝ }
 {
     let Found::Row(place) = find(count, levels, sizes, words, samples, id) else {
         return false;
@@ -127,8 +136,10 @@ fn write_rows(
     ids: &[u64],
     rows: &mut [u64],
 )
-    requires { ⌜ Fit count levels (now sizes) (length (now words)) (length (now samples)) ⌝ ∗ ⌜ count ≤ length (now rows) ⌝ }
-    ensures { λ _. ⌜ now (rows .exit) ≡ withIds (rowBy count levels (now (sizes .entry)) (now (words .entry)) (now (samples .entry))) (now (ids .entry)) (now (rows .entry)) ⌝ }
+    requires { ⌜ Fit count levels (now sizes) (length (now words)) (length (now samples)) ⌝ }
+    requires { ⌜ count ≤ length (now rows) ⌝ }
+    ensures { λ _. ⌜ now (rows .exit)
+        ≡ withIds (rowBy count levels (now (sizes .entry)) (now (words .entry)) (now (samples .entry))) (now (ids .entry)) (now (rows .entry)) ⌝ }
 {
     for i in 0..ids.len() {
         write_row(count, levels, sizes, words, samples, ids[i], rows);
@@ -145,8 +156,10 @@ fn write_row(
     id: u64,
     rows: &mut [u64],
 )
-    requires { ⌜ Fit count levels (now sizes) (length (now words)) (length (now samples)) ⌝ ∗ ⌜ count ≤ length (now rows) ⌝ }
-    ensures { λ _. ⌜ now (rows .exit) ≡ withId (rowBy count levels (now (sizes .entry)) (now (words .entry)) (now (samples .entry)) id) id (now (rows .entry)) ⌝ }
+    requires { ⌜ Fit count levels (now sizes) (length (now words)) (length (now samples)) ⌝ }
+    requires { ⌜ count ≤ length (now rows) ⌝ }
+    ensures { λ _. ⌜ now (rows .exit)
+        ≡ withId (rowBy count levels (now (sizes .entry)) (now (words .entry)) (now (samples .entry)) id) id (now (rows .entry)) ⌝ }
 {
     let Found::Row(place) = find(count, levels, sizes, words, samples, id) else {
         return;

@@ -1,10 +1,10 @@
 -- `mphf::listing::are_apart` meets its contract: the ids passed are apart, and the marks are their rows. Assumes nothing.
 use mathlib.Core.Path.{_≡_, refl}
-use Prim.Native.Nat.{ℕ, _-_, _≤_}
+use Prim.Native.Nat.{_-_, _≤_}
 use native.Mathlib.Omega.{arith}
 use lib.ListN.{length, take}
 use borrow.Author.Tests.{not-true, not-false}
-use Rattle.mphf.specs.Rows.{rowBy}
+use Rattle.mphf.specs.Passes.{rowBy}
 use Rattle.mphf.proofs.Sent.{row-below}
 use Rattle.mphf.proofs.Marks.{Marking, marking-none, marking-more, marking-ends, marking-all}
 use Rattle.mphf.proofs.listing.are_apart.Statement.{statement}
@@ -33,18 +33,16 @@ are-apart-spec =
     (λ c. omega arith)
     (λ c.
     let l = c .before .before .before .before .before .before .before .loop in
-    let a = c .before .before .before .before .before .before .before .before .before .before .before .before .args in
-    marking-ends _ _ (row-below (a .count) (a .levels) (a .sizes .now) (a .words .now) (a .samples .now)) _ _ _ (l .i) (omega arith) (l .inv .3) _ _ (c .before .before .before .mark-row .ensures)
+    marking-ends _ _ (row-below _ _ _ _ _) _ _ _ (l .i) (omega arith) (l .inv .3) _ _ (c .before .before .before .mark-row .ensures)
     (not-true (c .before .before .before .mark-row .result) (c .if1 .taken)))
     (λ c. omega arith)
     (λ c. omega arith)
     (λ c.
-    let l = c .before .before .before .before .before .before .before .loop in
-    let a = c .before .before .before .before .before .before .before .before .before .before .before .before .args in (
+    let l = c .before .before .before .before .before .before .before .loop in (
       omega arith,
       l .inv .1,
       omega arith,
-      marking-more _ _ (row-below (a .count) (a .levels) (a .sizes .now) (a .words .now) (a .samples .now)) _ _ _ (l .i) (omega arith) (l .inv .3) _ _ (omega arith) (c .before .before .before .mark-row .ensures)
+      marking-more _ _ (row-below _ _ _ _ _) _ _ _ (l .i) (omega arith) (l .inv .3) _ _ (omega arith) (c .before .before .before .mark-row .ensures)
           (not-false (c .before .before .before .mark-row .result) (c .if1 .left)),
     ))
     (λ c. omega arith)

@@ -24,7 +24,11 @@ rows-spec =
     (λ c. rows-short _ _ _ _ _ _ (fits (c .before .before)) (c .if2 .taken))
     (λ c κs. let f = fit-known _ _ _ _ _ (fits (c .before .before)) in omega (arith, f .few-ids))
     (λ c. marks-short _ _ _ _ _ _ (fits (c .before .before .before .before)) (c .before .before .if2 .left) (omega (arith, c .before .u64s .ensures)))
-    (λ c κs. (fit-known _ _ _ _ _ (fits (c .before .before .before .before .before .before .before)), (c .before .before .before .before .before .if2 .left, omega (arith, c .before .before .before .before .u64s .ensures))))
+    (λ c κs.
+    let s = c .before .before .before in
+    (fit-known _ _ _ _ _ (fits (s .before .before .before .before)), (s .before .before .if2 .left, omega (arith, s .before .u64s .ensures))))
     (λ c. search needs)
     (λ c. search needs)
-    (λ c. c .before .before .before .before .list-rows .ensures ∙ stores-fit _ _ _ _ _ _ (fits (c .before .before .before .before .before .before .before .before .before .before .before .before)) (c .before .before .before .before .before .before .before .before .before .before .if2 .left) (omega (arith, c .before .before .before .before .before .before .before .before .before .u64s .ensures))))
+    (λ c.
+    let s = c .before .before .before .before .before .before .before .before in
+    c .before .before .before .before .list-rows .ensures ∙ stores-fit _ _ _ _ _ _ (fits (s .before .before .before .before)) (s .before .before .if2 .left) (omega (arith, s .before .u64s .ensures))))

@@ -1,9 +1,9 @@
 -- `mphf::listing::write_rows` meets its contract: the ids that are left, written from here on, give the whole. Assumes nothing.
 use mathlib.Core.Path.{_≡_, refl}
-use Prim.Native.Nat.{ℕ, _-_, _≤_}
+use Prim.Native.Nat.{_-_, _≤_}
 use native.Mathlib.Omega.{arith}
 use lib.ListN.{length, drop}
-use Rattle.mphf.specs.Rows.{rowBy, withIds}
+use Rattle.mphf.specs.Passes.{rowBy, withIds}
 use Rattle.mphf.proofs.Lists.{writes-more, writes-done}
 use Rattle.mphf.proofs.listing.write_rows.Statement.{statement}
 use Rattle.mphf.proofs.listing.write_rows.Tie as tie
