@@ -4,3 +4,5 @@ pub mod Lists
 pub mod Marks
 pub mod Sent
 pub mod RowCalls
+pub mod RowPromise
+pub mod RowTable

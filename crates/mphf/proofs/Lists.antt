@@ -2,10 +2,10 @@
 -- the ids written at their rows in turn leave the row list. Assumes nothing.
 use mathlib.Core.Path.{_≡_, refl, sym, ap, ap₂, _∙_}
 use mathlib.Core.Logic.{inl, inr}
-use mathlib.Core.Bool.{Bool, true, false, cond}
+use mathlib.Core.Bool.{Bool, true, false, cond, false≢true}
 use mathlib.Core.List.{List, [], _∷_, _++_}
 use mathlib.Core.Option.{Option, none, some}
-use Prim.Native.Nat.{ℕ, zero, suc, _+_, _-_, _*_, _≤_, _<_, zero-le}
+use Prim.Native.Nat.{ℕ, zero, suc, _+_, _*_, _≤_, _<_, zero-le}
 use native.Mathlib.Nat.{add-zero, one-mul, eq-or-lt-of-le, le-of-suc-le-suc}
 use native.Mathlib.Numerals.{add-one}
 use native.Mathlib.Decide.{ℕ-discrete}
@@ -23,7 +23,7 @@ use Rattle.laws.proofs.Ranks.{sum-ones, rank-none, none-rank}
 use Rattle.mphf.specs.Rows.{isNone, isRow, rowless, sent, apart, listed}
 use Rattle.mphf.specs.Passes.{withId, withIds}
 
--- ---- numbers of which none is above 1, and which are 1 on average, are all 1
+-- ---- n numbers of which none is above 1 and whose sum is n are all 1
 
 few : (w : ℕ → ℕ) (n : ℕ) → ((k : ℕ) → k < n → w k ≤ 1) → sum w n ≤ n
 few w zero h = zero-le
@@ -62,6 +62,17 @@ module _ (row : ℕ → Option ℕ) (ids : List ℕ) (count : ℕ) where
       go true e = absurd (n e)
       go false e = refl
 
+-- ---- the first of the members that pass passes
+
+sift-first : (f : ℕ → Bool) (xs : List ℕ) → 0 < length (sift f xs) → f (getD (sift f xs) 0 0) ≡ true
+sift-first f [] h = absurd (omega arith)
+sift-first f (x ∷ xs) h = go (f x) refl h (λ l. sift-first f xs l)
+  where
+    go : (b : Bool) → f x ≡ b → 0 < length (cond b (x ∷ sift f xs) (sift f xs)) → (0 < length (sift f xs) → f (getD (sift f xs) 0 0) ≡ true)
+        → f (getD (cond b (x ∷ sift f xs) (sift f xs)) 0 0) ≡ true
+    go true e l r = e
+    go false e l r = r l
+
 -- ---- rows below a count
 
 module _ (row : ℕ → Option ℕ) (count : ℕ) (below : (x r : ℕ) → row x ≡ some r → r < count) where
@@ -71,12 +82,13 @@ module _ (row : ℕ → Option ℕ) (count : ℕ) (below : (x r : ℕ) → row x
   one-place (some r) h =
       omega (arith, sum-same (λ k. one (eqb r k)) (λ k. 1 * one (eqb r k)) count (λ k l. sym (one-mul _)), sum-point (λ k. 1) r count, one-lt r count (h r refl))
 
+  -- the ids without a row and those sent to each row are all ids
   all-sent : (xs : List ℕ) → rowless row xs + sum (sent row xs) count ≡ length xs
   all-sent [] = omega (arith, sum-zero count)
   all-sent (x ∷ xs) =
       omega (arith, all-sent xs, one-place (row x) (below x), sum-add (λ k. one (isRow k (row x))) (sent row xs) count)
 
-  -- so that each row has one id, where there are as many ids as rows, and they are apart
+  -- so that each row has one id, where there are as many ids as rows and they are apart
   one-each : (ids : List ℕ) → length ids ≡ count → apart row ids count ≡ true → (k : ℕ) → k < count → sent row ids k ≡ 1
   one-each ids n e = let t = apart-known row ids count e in all-one (sent row ids) count (t .1) (omega (arith, all-sent ids, t .0))
 
@@ -124,7 +136,7 @@ module _ (row : ℕ → Option ℕ) (count : ℕ) (below : (x r : ℕ) → row x
             | no n ↦ rw (ne-eqb r k n, getD-set-other rows r k x 0 (λ e. n (sym e)))
           ]
 
-  -- of one id
+  -- which is the only one, if there is one
   only : (d : ℕ) (xs : List ℕ) → length xs ≡ 1 → lastOf d xs ≡ getD xs 0 0
   only d [] e = absurd (omega arith)
   only d (x ∷ []) e = refl
@@ -137,7 +149,7 @@ module _ (row : ℕ → Option ℕ) (count : ℕ) (below : (x r : ℕ) → row x
     lone-sum : (k : ℕ) → k ≤ count → sum (λ j. length (sentTo ids j)) k ≡ k
     lone-sum k h = sum-same _ (λ j. 1) k (λ j l. lone j (omega arith)) ∙ sum-ones k
 
-    listed-length : length (listed row ids count) ≡ count
+    pub listed-length : length (listed row ids count) ≡ count
     unfolding listed
     listed-length = length-blocks (sentTo ids) count ∙ lone-sum count (omega arith)
 
@@ -146,6 +158,14 @@ module _ (row : ℕ → Option ℕ) (count : ℕ) (below : (x r : ℕ) → row x
     listed-at k l =
         rw (lone-sum k (omega arith), add-zero k) at
         (blocks-at (sentTo ids) (λ j. length (sentTo ids j)) (λ j. refl) count k 0 l (omega (arith, lone k l)))
+
+    -- at each row stands an id that is sent there
+    pub listed-row : (k : ℕ) → k < count → row (getD (listed row ids count) k 0) ≡ some k
+    listed-row k l = rw (listed-at k l) (go (row (getD (sentTo ids k) 0 0)) (sift-first (λ x. isRow k (row x)) ids (omega (arith, lone k l))))
+      where
+        go : (o : Option ℕ) → isRow k o ≡ true → o ≡ some k
+        go none e = absurd (false≢true e)
+        go (some r) e = ap some (eqb-true r k e)
 
     -- the row list stands at the front, and what is past it is as it was
     pub all-listed : withIds row ids rows ≡ listed row ids count ++ drop count rows

@@ -37,6 +37,7 @@ mark-some row marks r old after e s = rw e (record { new = ap not (s .old); mark
 passed-le : (w : ℕ → ℕ) (xs : List ℕ) (k : ℕ) → total w (take k xs) ≤ total w xs
 passed-le w xs k = omega (arith, total-append w (take k xs) (drop k xs), ap (total w) (take-append-drop k xs))
 
+-- the ids passed all have rows, the marks below the count are their rows, one for one, and those past the needed ones are as they were
 pub record Marking (row : ℕ → Option ℕ) (count : ℕ) (marks passed now : List ℕ) : Type 0 where
   pub all-rows : rowless row passed ≡ 0
   pub each : (k : ℕ) → k < count → one (has now k) ≡ sent row passed k

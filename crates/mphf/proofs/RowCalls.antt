@@ -29,7 +29,8 @@ module _ (count : ℕ) (marks : List ℕ) where
     clear = λ k l.
         let n : ℕ = wordsFor count in
         let z : getD (clearMarks count marks) (k / 64) 0 ≡ 0 =
-        List·getD-append (zeros n) (drop n marks) 0 (k / 64) (rw (length-replicate {A = ℕ} n 0) (omega arith)) ∙ getD-replicate n (k / 64) 0 0 (omega arith) in
+        List·getD-append (zeros n) (drop n marks) 0 (k / 64) (rw (length-replicate {A = ℕ} n 0) (omega arith))
+        ∙ getD-replicate n (k / 64) 0 0 (omega arith) in
         has-clear (clearMarks count marks) k (λ d. let e = rw (z, zero-div) at d in omega arith);
   }
 
@@ -40,8 +41,8 @@ module _ (count : ℕ) (marks : List ℕ) where
   clears need once n e = e ∙ ap (λ (k : ℕ). replicate k 0 ++ drop k marks) n
 
   -- once more, after a change of the needed ones only
-  pub clears-again : (need : ℕ) (used again : List ℕ) → need ≡ wordsFor count → drop (wordsFor count) used ≡ drop (wordsFor count) (clearMarks count marks)
-      → again ≡ replicate need 0 ++ drop need used → again ≡ clearMarks count marks
+  pub clears-again : (need : ℕ) (used again : List ℕ) → need ≡ wordsFor count
+      → drop (wordsFor count) used ≡ drop (wordsFor count) (clearMarks count marks) → again ≡ replicate need 0 ++ drop need used → again ≡ clearMarks count marks
   clears-again need used again n p e =
       e ∙ ap (λ (k : ℕ). replicate k 0 ++ drop k used) n ∙ ap (λ (l : List ℕ). zeros (wordsFor count) ++ l) (p ∙ marks-past)
 

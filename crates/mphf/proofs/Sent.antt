@@ -39,7 +39,7 @@ answer-below count ws ss i p r e =
     go at true h q = let z : at ≡ r = cc in omega (arith, h refl)
     go at false h q = let z : _≡_ {A = ℕ} 0 1 = cc in absurd (omega arith)
 
-found-below : (count : ℕ) (span : ℕ → ℕ) (ws ss : List ℕ) (x levels r : ℕ) → rowIn (findIn count span ws ss x levels) ≡ some r → r < count
+pub found-below : (count : ℕ) (span : ℕ → ℕ) (ws ss : List ℕ) (x levels r : ℕ) → rowIn (findIn count span ws ss x levels) ≡ some r → r < count
 unfolding findIn
 found-below count span ws ss x levels r e = go (first position span (λ i. has (levelWords span ws i)) levels 0 x) e
   where

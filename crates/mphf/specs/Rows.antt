@@ -78,7 +78,7 @@ rowsBy row count ids rows marks =
     check (eqb (length ids) count && apart row ids count) 12 rows (clearMarks count marks)
     (record { refusal = 0; value = 0; rows = listed row ids count ++ drop count rows; marks = clearMarks count marks })
 
--- The row list of the ids by lookup.
+-- The row list of the ids by lookup: first the checks of the head and of the stores.
 unfoldable pub rowsCall : Head → List ℕ → List ℕ → List ℕ → List ℕ → List ℕ → Listing
 rowsCall head ws ss ids rows marks =
     let count = head .count in

@@ -25,7 +25,8 @@ first c = c .before .before .before .before .before .before .before .before .bef
 again : (c : tie.After-fill2) → c .fill2 .last .0 ≡ clearMarks (entry (first c) .args .count) (entry (first c) .args .marks .now)
 again c =
     let n = wordsFor (entry (first c) .args .count) in
-    clears-again _ _ _ _ _ (first c .before .before .u64s .ensures) (c .before .before .before .before .are-apart .ensures .past ∙ ap (drop n) (once (first c))) (c .fill2 .ensures)
+    let p = c .before .before .before .before .are-apart .ensures .past in
+    clears-again _ _ _ _ _ (first c .before .before .u64s .ensures) (p ∙ ap (drop n) (once (first c))) (c .fill2 .ensures)
 
 pub list-rows-spec : {M : Type 1} → statement M
 list-rows-spec =

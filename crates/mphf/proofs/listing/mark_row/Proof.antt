@@ -13,7 +13,9 @@ mark-row-spec =
     (λ c κs. search needs)
     (λ c. search needs)
     (λ c. mark-none _ _ (none-told _ _ _ _ _ _ (c .before .find .result) (c .before .find .ensures) (c .match .keys2)))
-    (λ c κs. let f = c .before .before .before .before .find in omega (arith, told-below _ _ _ _ _ _ (f .result) _ (f .ensures) (c .before .before .place .given .1)))
+    (λ c κs.
+    let f = c .before .before .before .before .find in
+    omega (arith, told-below _ _ _ _ _ _ (f .result) _ (f .ensures) (c .before .before .place .given .1)))
     (λ c. search needs)
     (λ c.
     let p = c .before .before .before .before .before in

@@ -12,7 +12,12 @@ use Rattle.mphf.proofs.listing.rows.Statement.{statement}
 use Rattle.mphf.proofs.listing.rows.Tie as tie
 
 -- past the first check the head fits
-fits : (c : tie.Else1) → let a = c .before .before .before .before .before .before .before .before .before .args in let h = a .head in fit (h .count) (h .levels) (h .sizes) (length (a .words .now)) (length (a .samples .now)) ≡ true
+abbrev entry : tie.Else1 → tie.Start
+entry c = c .before .before .before .before .before .before .before .before .before
+
+fits : (c : tie.Else1)
+    → let a = entry c .args in
+    fit (a .head .count) (a .head .levels) (a .head .sizes) (length (a .words .now)) (length (a .samples .now)) ≡ true
 fits c = passed (c .before .is-fit .ensures) (c .if1 .left)
 
 pub rows-spec : {M : Type 1} → statement M
@@ -31,4 +36,5 @@ rows-spec =
     (λ c. search needs)
     (λ c.
     let s = c .before .before .before .before .before .before .before .before in
-    c .before .before .before .before .list-rows .ensures ∙ stores-fit _ _ _ _ _ _ (fits (s .before .before .before .before)) (s .before .before .if2 .left) (omega (arith, s .before .u64s .ensures))))
+    c .before .before .before .before .list-rows .ensures
+    ∙ stores-fit _ _ _ _ _ _ (fits (s .before .before .before .before)) (s .before .before .if2 .left) (omega (arith, s .before .u64s .ensures))))
