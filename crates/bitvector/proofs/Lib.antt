@@ -4,5 +4,7 @@ pub mod Sizes
 pub mod Fills
 pub mod Rising
 pub mod Agreement
+pub mod Joining
+pub mod Again
 pub mod Unique
 pub mod Rows

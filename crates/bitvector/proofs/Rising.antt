@@ -15,8 +15,8 @@ use lib.Pow.{pow-pos}
 use lib.Seq.{sets, sets-eq}
 use Rattle.laws.specs.Counting.{one, rank, blocks}
 use Rattle.laws.specs.Bits.{digit, has, wordsFor}
-use Rattle.laws.proofs.Blocks.{length-blocks}
-use Rattle.laws.proofs.Ranks.{sum-below, blocks-range, blocks-below, blocks-none}
+use Rattle.laws.proofs.Sums.{sum-same}
+use Rattle.laws.proofs.Blocks.{length-blocks, blocks-split, blocks-same, blocks-none}
 use Rattle.laws.proofs.Digits.{digit-lt, down-le, down-same, down-other, one-shl, ones-low, lowest}
 use Rattle.laws.proofs.Words.{has-digit}
 use Rattle.bitvector.specs.Sets.{Plain, rising, setOf}
@@ -47,9 +47,10 @@ places-pop base w h n =
     let gone : blocks (place base v) (suc t) ≡ [] =
     blocks-none (place base v) (suc t) (λ k l. no-place base v k (below k l)) in
     let above : blocks (λ k. place base w (suc t + k)) m ≡ blocks (λ k. place base v (suc t + k)) m =
-    blocks-below _ _ m (λ k l. ap (λ (d : ℕ). cond (eqb d 1) ((base + (suc t + k)) ∷ []) []) (sym (down-other w t (suc t + k) (low .set) (omega arith)))) in
-    ap (blocks (place base w)) e ∙ blocks-range (place base w) (suc t) m ∙ ap₂ (λ (x y : List ℕ). x ++ y) here above
-    ∙ ap (λ (l : List ℕ). (base + t) ∷ l) (ap (λ (l : List ℕ). l ++ blocks (λ k. place base v (suc t + k)) m) (sym gone) ∙ sym (blocks-range (place base v) (suc t) m) ∙ ap (blocks (place base v)) (sym e))
+    blocks-same _ _ m (λ k l. ap (λ (d : ℕ). cond (eqb d 1) ((base + (suc t + k)) ∷ []) []) (sym (down-other w t (suc t + k) (low .set) (omega arith)))) in
+    let rest : blocks (place base v) 64 ≡ blocks (λ k. place base v (suc t + k)) m =
+    ap (blocks (place base v)) e ∙ blocks-split (place base v) (suc t) m ∙ ap (λ (l : List ℕ). l ++ blocks (λ k. place base v (suc t + k)) m) gone in
+    ap (blocks (place base w)) e ∙ blocks-split (place base w) (suc t) m ∙ ap₂ (λ (x y : List ℕ). x ++ y) here (above ∙ sym rest)
   where
     below : (k : ℕ) → k < suc (trailingZeros 64 w) → digit (w - 2 ^ trailingZeros 64 w) k ≡ 0
     below k l =
@@ -66,7 +67,7 @@ places-zero base = refl
 pub length-places : (base w : ℕ) → w < 2 ^ 64 → length (places base w) ≡ ones w
 unfolding places
 length-places base w h =
-    length-blocks (place base w) 64 ∙ sum-below _ (λ k. digit w k) 64 (λ k l. go (digit w k) (digit-lt w k) k) ∙ sym (ones-low w 64) ∙ ap ones (mod-eq-of-lt h)
+    length-blocks (place base w) 64 ∙ sum-same _ (λ k. digit w k) 64 (λ k l. go (digit w k) (digit-lt w k) k) ∙ sym (ones-low w 64) ∙ ap ones (mod-eq-of-lt h)
   where
     go : (d : ℕ) → d < 2 → (k : ℕ) → length (cond (eqb d 1) ((base + k) ∷ []) []) ≡ d
     go zero l k = refl
@@ -97,7 +98,7 @@ turn w h n =
 -- ---- word by word
 
 pub length-rising : (s : Plain) (n : ℕ) → length (rising s n) ≡ rank s n
-length-rising s n = length-blocks _ n ∙ sum-below _ (λ b. one (s b)) n (λ b l. go b (s b))
+length-rising s n = length-blocks _ n ∙ sum-same _ (λ b. one (s b)) n (λ b l. go b (s b))
   where
     go : (b : ℕ) (t : Bool) → length (cond t (b ∷ []) []) ≡ one t
     go b true = refl
@@ -108,14 +109,16 @@ unfolding places
 rising-next ws i =
     let e : 64 * (i + 1) ≡ 64 * i + 64 = omega arith in
     let member : ℕ → List ℕ = λ b. cond (has ws b) (b ∷ []) [] in
-    ap (blocks member) e ∙ blocks-range member (64 * i) 64
+    ap (blocks member) e ∙ blocks-split member (64 * i) 64
     ∙ ap (λ (l : List ℕ). rising (has ws) (64 * i) ++ l)
-    (blocks-below _ _ 64
-    (λ k l. ap₂ (λ (t : Bool) (b : ℕ). cond t (b ∷ []) []) (set-digit (has ws (64 * i + k)) ∙ ap (λ (d : ℕ). eqb d 1) (has-digit ws i k l)) (ap (λ (b : ℕ). b + k) (mul-comm 64 i))))
+    (blocks-same _ _ 64 (λ k l. ap₂ (λ (t : Bool) (b : ℕ). cond t (b ∷ []) []) (test k l) (ap (λ (b : ℕ). b + k) (mul-comm 64 i))))
   where
-    set-digit : (t : Bool) → t ≡ eqb (one t) 1
-    set-digit true = refl
-    set-digit false = refl
+    back : (t : Bool) → t ≡ eqb (one t) 1
+    back true = refl
+    back false = refl
+
+    test : (k : ℕ) → k < 64 → has ws (64 * i + k) ≡ eqb (digit (getD ws i 0) k) 1
+    test k l = back (has ws (64 * i + k)) ∙ ap (λ (d : ℕ). eqb d 1) (has-digit ws i k l)
 
 sets-append : (l us vs : List ℕ) (i : ℕ) → sets l i (us ++ vs) ≡ sets (sets l i us) (i + length us) vs
 sets-append l [] vs i = ap (λ (k : ℕ). sets l k vs) (sym (add-zero i))
@@ -136,9 +139,9 @@ module _ (capacity : ℕ) (ws : List ℕ) (s : sound capacity ws ≡ true) where
       let m : ℕ = 64 * wordsFor capacity - capacity in
       let e : 64 * wordsFor capacity ≡ capacity + m = omega arith in
       let member : ℕ → List ℕ = λ b. cond (has ws b) (b ∷ []) [] in
-      ap (blocks member) e ∙ blocks-range member capacity m
+      ap (blocks member) e ∙ blocks-split member capacity m
       ∙ ap₂ (λ (x y : List ℕ). x ++ y)
-      (blocks-below member _ capacity (λ b l. rw (lt-ltb b capacity l)))
+      (blocks-same member _ capacity (λ b l. rw (lt-ltb b capacity l)))
       (blocks-none (λ k. member (capacity + k)) m (λ k l. rw (stray capacity ws s (capacity + k) (omega arith) (omega arith))))
       ∙ append-nil (rising (setOf capacity ws) capacity)
 

@@ -1,11 +1,13 @@
 -- Worked examples of the calls, both sides of each line: one table of tests, which antt computes. Assumes nothing.
-use Prim.Native.Nat.{ℕ, _-_, _^_}
+use Prim.Native.Nat.{ℕ, _+_, _-_, _^_}
 use mathlib.Core.Bool.{Bool, true, false, _&&_}
 use mathlib.Core.List.{List, [], _∷_}
 use lib.Dec.{T, eqb}
+use Rattle.bounds.specs.Bounds.{maxBits}
 use Rattle.laws.specs.Bits.{bitAt, has, packed}
 use Rattle.bitvector.specs.Sets.{stored}
-use Rattle.bitvector.specs.Calls.{Outcome, roomy, sound, newCall, onesCall, isEmptyCall, lenCall, containsCall, insertCall, removeCall, insertAllCall, eqLeftCall, membersCall}
+use Rattle.bitvector.specs.Calls.{Outcome, roomy, sound, newCall, onesCall, isEmptyCall, lenCall}
+use Rattle.bitvector.specs.Calls.{containsCall, insertCall, removeCall, insertAllCall, eqLeftCall, membersCall}
 
 abbrev same : List ℕ → List ℕ → Bool
 same [] [] = true
@@ -22,7 +24,7 @@ all [] = true
 all (row ∷ rows) = row && all rows
 
 rows : T (all
-    (is (newCall 16_777_217 []) 10 0 []
+    (is (newCall (maxBits + 1) []) 10 0 []
     ∷ is (newCall 65 (9 ∷ 9 ∷ 9 ∷ [])) 0 0 (0 ∷ 0 ∷ 9 ∷ [])
     ∷ is (onesCall 64 (9 ∷ 9 ∷ [])) 0 0 ((2 ^ 64 - 1) ∷ 9 ∷ [])
     ∷ is (onesCall 65 (9 ∷ 9 ∷ 9 ∷ [])) 0 0 ((2 ^ 64 - 1) ∷ 1 ∷ 9 ∷ [])

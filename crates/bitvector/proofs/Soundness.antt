@@ -12,16 +12,12 @@ use lib.ListN.{length, getD}
 use Rattle.bounds.specs.Bounds.{maxBits}
 use Rattle.laws.specs.Counting.{one, rank}
 use Rattle.laws.specs.Bits.{has, Words, wordsFor}
-use Rattle.laws.proofs.Ranks.{eqb-both, none-rank, rank-below, sum-range}
+use Rattle.laws.proofs.Cases.{eqb-both, both}
+use Rattle.laws.proofs.Sums.{none-rank, rank-same, sum-split}
 use Rattle.laws.proofs.Digits.{ones-none, ones-zero}
 use Rattle.laws.proofs.Ones.{rank-rest}
 use Rattle.bitvector.specs.Sets.{setOf}
 use Rattle.bitvector.specs.Calls.{roomy, sound}
-
--- both parts of a test that holds
-pub both : (s t : Bool) → s && t ≡ true → (s ≡ true) × (t ≡ true)
-both true t e = (refl, e)
-both false t e = (e, absurd (false≢true e))
 
 -- a check that the code makes by `!`
 pub passed : {t u : Bool} → t ≡ u → not t ≡ false → u ≡ true
@@ -64,8 +60,9 @@ module _ (capacity : ℕ) (ws : List ℕ) (s : sound capacity ws ≡ true) where
   pub stray : (b : ℕ) → capacity ≤ b → b < 64 * wordsFor capacity → has ws b ≡ false
   unfolding sound
   stray b l h =
+      let m : ℕ = 64 * wordsFor capacity - capacity in
       let e : capacity + (b - capacity) ≡ b = omega arith in
-      rw e at (none-rank (λ k. has ws (capacity + k)) (64 * wordsFor capacity - capacity) (eqb-true _ _ (both (roomy capacity ws) _ s .1)) (b - capacity) (omega arith))
+      rw e at (none-rank (λ k. has ws (capacity + k)) m (eqb-true _ 0 (both (roomy capacity ws) _ s .1)) (b - capacity) (omega arith))
 
   -- so the bits set in the needed words are the numbers of the set
   pub set-size : rank (has ws) (64 * wordsFor capacity) ≡ rank (setOf capacity ws) capacity
@@ -73,9 +70,9 @@ module _ (capacity : ℕ) (ws : List ℕ) (s : sound capacity ws ≡ true) where
   set-size =
       let m : ℕ = 64 * wordsFor capacity - capacity in
       let e : 64 * wordsFor capacity ≡ capacity + m = omega arith in
-      ap (rank (has ws)) e ∙ sum-range (λ p. one (has ws p)) capacity m
+      ap (rank (has ws)) e ∙ sum-split (λ p. one (has ws p)) capacity m
       ∙ ap₂ (λ (x y : ℕ). x + y)
-      (rank-below (has ws) (setOf capacity ws) capacity (λ b l. rw (lt-ltb b capacity l)))
+      (rank-same (has ws) (setOf capacity ws) capacity (λ b l. rw (lt-ltb b capacity l)))
       (eqb-true (rank (λ k. has ws (capacity + k)) m) 0 (both (roomy capacity ws) _ s .1))
       ∙ add-zero (rank (setOf capacity ws) capacity)
 

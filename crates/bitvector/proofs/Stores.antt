@@ -1,16 +1,16 @@
 -- From words to the plain sets that they hold: a bit put into sound words is the store with the set of the act. Assumes nothing.
-use mathlib.Core.Path.{_≡_, refl, sym, ap, ap₂, _∙_}
+use mathlib.Core.Path.{_≡_, refl, sym, ap, _∙_}
 use mathlib.Core.Bool.{Bool, true, false, not, cond, _||_, _&&_}
-use mathlib.Core.List.{List, _++_}
-use Prim.Native.Nat.{ℕ, _*_, _/_, _<_}
+use mathlib.Core.List.{List}
+use Prim.Native.Nat.{ℕ, _/_, _<_}
 use native.Mathlib.Omega.{arith}
 use borrow.Author.Tests.{lt-ltb}
 use lib.Dec.{eqb}
-use lib.ListN.{length, drop, take-append-drop}
+use lib.ListN.{length}
 use Rattle.laws.specs.Counting.{one}
 use Rattle.laws.specs.Bits.{has, Words, wordsFor, withBit, withoutBit}
 use Rattle.laws.proofs.Words.{Put, with-put, without-put, put-length, put-drop, put-words, put-has}
-use Rattle.laws.proofs.Packing.{packed-below, packed-take}
+use Rattle.laws.proofs.Packing.{packed-store}
 use Rattle.bitvector.specs.Sets.{Plain, plus, minus, setOf, stored}
 use Rattle.bitvector.specs.Calls.{answered, sound, containsCall, insertCall, removeCall}
 use Rattle.bitvector.proofs.Soundness.{sound-room, set-bits}
@@ -25,10 +25,9 @@ module _ (capacity : ℕ) (ws : List ℕ) (bit : ℕ) (s : sound capacity ws ≡
   put-stored t us act p f e =
       let r = sound-room capacity ws s in
       let n : ℕ = wordsFor capacity in
-      let held : (b : ℕ) → b < 64 * n → act b ≡ has us b =
-      λ b l. e b ∙ ap (λ (x : Bool). cond (eqb b bit) t x) (set-bits capacity ws s b l) ∙ sym (put-has p bit-word b) in
-      sym (ap₂ (λ (x y : List ℕ). x ++ y) (packed-below n act (has us) held ∙ packed-take n us (rw (put-length p) (r .words)) (put-words p f)) (sym (put-drop p n (omega arith)))
-      ∙ take-append-drop n us)
+      packed-store n act ws us (rw (put-length p) (r .words)) (put-words p f)
+      (λ b l. e b ∙ ap (λ (x : Bool). cond (eqb b bit) t x) (set-bits capacity ws s b l) ∙ sym (put-has p bit-word b))
+      (put-drop p n (omega arith))
 
   pub contained : answered (one (has ws bit)) ws ≡ containsCall capacity ws bit
   contained = rw (s, lt-ltb _ _ h)
@@ -36,7 +35,8 @@ module _ (capacity : ℕ) (ws : List ℕ) (bit : ℕ) (s : sound capacity ws ≡
   pub inserted : Words ws → answered (one (not (has ws bit))) (withBit ws bit) ≡ insertCall capacity ws bit
   inserted f =
       rw (s, lt-ltb _ _ h)
-      (ap (answered (one (not (has ws bit)))) (put-stored true (withBit ws bit) (plus (setOf capacity ws) bit) (with-put ws bit) f (λ b. go (eqb b bit) (setOf capacity ws b))))
+      (ap (answered (one (not (has ws bit))))
+      (put-stored true (withBit ws bit) (plus (setOf capacity ws) bit) (with-put ws bit) f (λ b. go (eqb b bit) (setOf capacity ws b))))
     where
       go : (q x : Bool) → q || x ≡ cond q true x
       go true x = refl
@@ -45,7 +45,8 @@ module _ (capacity : ℕ) (ws : List ℕ) (bit : ℕ) (s : sound capacity ws ≡
   pub removed : Words ws → answered (one (has ws bit)) (withoutBit ws bit) ≡ removeCall capacity ws bit
   removed f =
       rw (s, lt-ltb _ _ h)
-      (ap (answered (one (has ws bit))) (put-stored false (withoutBit ws bit) (minus (setOf capacity ws) bit) (without-put ws bit) f (λ b. go (eqb b bit) (setOf capacity ws b))))
+      (ap (answered (one (has ws bit)))
+      (put-stored false (withoutBit ws bit) (minus (setOf capacity ws) bit) (without-put ws bit) f (λ b. go (eqb b bit) (setOf capacity ws b))))
     where
       go : (q x : Bool) → not q && x ≡ cond q false x
       go true x = refl

@@ -15,7 +15,8 @@ use Rattle.bitvector.specs.declared.Said.{Said}
 use Rattle.bitvector.specs.declared.Said.the-variants as S
 use Rattle.bitvector.specs.declared.Counted.{Counted}
 use Rattle.bitvector.specs.declared.Counted.the-variants as C
-use Rattle.bitvector.specs.Calls.{Outcome, made, said, counted, newCall, onesCall, isEmptyCall, lenCall, containsCall, insertCall, removeCall, insertAllCall, eqLeftCall, membersCall}
+use Rattle.bitvector.specs.Calls.{Outcome, made, said, counted, newCall, onesCall, isEmptyCall, lenCall}
+use Rattle.bitvector.specs.Calls.{containsCall, insertCall, removeCall, insertAllCall, eqLeftCall, membersCall}
 
 -- whatever is answered and left in the store, if it is the outcome x, it is the same
 abbrev pub Once : (A : Type 0) → (A → List ℕ → Outcome) → Outcome → Type 0

@@ -1,5 +1,5 @@
 -- Plain sets of numbers and the acts on them, which 01's calls perform on words; and how words hold a plain set.
-use Prim.Native.Nat.{ℕ, _+_}
+use Prim.Native.Nat.{ℕ}
 use mathlib.Core.Bool.{Bool, false, not, cond, _||_, _&&_, Bool·beq}
 use mathlib.Core.List.{List, [], _∷_, _++_}
 use lib.Dec.{eqb, ltb}

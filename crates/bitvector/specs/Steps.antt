@@ -9,7 +9,7 @@ use lib.ListN.{drop}
 use lib.Seq.{sets}
 use Rattle.laws.specs.Counting.{blocks}
 use Rattle.laws.specs.Bits.{digit, has, packed}
-use Rattle.bitvector.specs.Sets.{union, sameBelow}
+use Rattle.bitvector.specs.Sets.{Plain, union, sameBelow}
 
 -- one bit: whether it was set before is told, and the words become those that the step names
 pub record Step (ws : List ℕ) (bit : ℕ) (next : List ℕ) (told : Bool) (after : List ℕ) : Type 0 where
@@ -25,7 +25,11 @@ pub record Listed (base w start : ℕ) (out : List ℕ) (next : ℕ) (after : Li
   pub told : next ≡ start + ones w
   pub store : after ≡ sets out start (places base w)
 
--- the bits of both are in the first n words; whether one was new is told
+-- the bits of two lists of words
+abbrev pub eitherBits : List ℕ → List ℕ → Plain
+eitherBits ws us = union (has ws) (has us)
+
+-- they are in the first n words; whether one was new is told
 pub record Joined (n : ℕ) (ws us : List ℕ) (told : Bool) (after : List ℕ) : Type 0 where
-  pub new : told ≡ not (sameBelow (has ws) (union (has ws) (has us)) (64 * n))
-  pub words : after ≡ packed n (union (has ws) (has us)) ++ drop n ws
+  pub new : told ≡ not (sameBelow (has ws) (eitherBits ws us) (64 * n))
+  pub words : after ≡ packed n (eitherBits ws us) ++ drop n ws

@@ -1,7 +1,8 @@
 -- The laws of lists one after another. Assumes nothing.
-use mathlib.Core.Path.{_≡_, refl, ap₂, _∙_}
-use mathlib.Core.List.{List, _++_}
+use mathlib.Core.Path.{_≡_, refl, sym, ap, ap₂, _∙_}
+use mathlib.Core.List.{List, [], _++_, append-assoc, append-nil}
 use Prim.Native.Nat.{ℕ, zero, suc, _+_, _<_}
+use native.Mathlib.Nat.{add-zero, add-suc, le-step, lt-suc-self}
 use native.Mathlib.Omega.{arith}
 use lib.ListN.{length, getD, length-append, List·getD-append}
 use lib.Seq.{getD-append-add}
@@ -36,3 +37,12 @@ blocks-at f w e (suc n) j k h l = go (tri j n) (λ q. blocks-at f w e n j k q l)
     go (lt q) r = List·getD-append (blocks f n) (f n) 0 (sum w j + k) (omega (arith, len, sum-mono w {m = suc j} {n = n} q)) ∙ r q
     go (eq q) r = rw (q, ← len) (getD-append-add (blocks f n) (f n) k 0)
     go (gt q) r = absurd (omega arith)
+
+pub blocks-split : (f : ℕ → List ℕ) (m n : ℕ) → blocks f (m + n) ≡ blocks f m ++ blocks (λ k. f (m + k)) n
+blocks-split f m zero = ap (blocks f) (add-zero m) ∙ sym (append-nil (blocks f m))
+blocks-split f m (suc n) =
+    ap (blocks f) (add-suc m n) ∙ ap (λ (l : List ℕ). l ++ f (m + n)) (blocks-split f m n) ∙ append-assoc (blocks f m) (blocks (λ k. f (m + k)) n) (f (m + n))
+
+pub blocks-none : (f : ℕ → List ℕ) (n : ℕ) → ((k : ℕ) → k < n → f k ≡ []) → blocks f n ≡ []
+blocks-none f zero e = refl
+blocks-none f (suc n) e = ap₂ (λ (x y : List ℕ). x ++ y) (blocks-none f n (λ k l. e k (le-step l))) (e n (lt-suc-self n))

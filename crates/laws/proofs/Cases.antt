@@ -1,5 +1,5 @@
 -- Two numbers are less, equal or greater; and what a test of them is worth as a number, from the fact. Assumes nothing.
-use mathlib.Core.Path.{_≡_, refl, ap}
+use mathlib.Core.Path.{_≡_, refl, sym, ap}
 use mathlib.Core.Bool.{Bool, true, false, _&&_, false≢true}
 use Prim.Native.Nat.{ℕ, _≤_, _<_}
 use native.Mathlib.Omega.{arith}
@@ -36,3 +36,18 @@ one-ge a b h = ap one (le-ltb a b h)
 pub both : (s t : Bool) → s && t ≡ true → (s ≡ true) × (t ≡ true)
 both true t e = (refl, e)
 both false t e = (e, absurd (false≢true e))
+
+-- a test's number gives the test back
+pub one-inj : (s t : Bool) → one s ≡ one t → s ≡ t
+one-inj true true e = refl
+one-inj true false e = absurd (omega arith)
+one-inj false true e = absurd (omega arith)
+one-inj false false e = refl
+
+-- tests that hold together are one test
+pub eqb-both : (a b c d : ℕ) → (a ≡ b → c ≡ d) → (c ≡ d → a ≡ b) → eqb a b ≡ eqb c d
+eqb-both a b c d f g = go (eqb a b) refl
+  where
+    go : (t : Bool) → eqb a b ≡ t → t ≡ eqb c d
+    go true e = sym (eq-eqb c d (f (eqb-true a b e)))
+    go false e = sym (ne-eqb c d (λ h. eqb-false a b e (g h)))

@@ -1,9 +1,11 @@
--- The digits of one number: they make it up, one is set by a sum and cleared by a difference, the ones are their sum, and the lowest that is set. Assumes nothing.
+-- The digits of one number: they make it up, one is set by a sum and cleared by a difference, their sum is the ones; and the lowest that is set.
+-- Assumes nothing.
 use mathlib.Core.Path.{_≡_, refl, sym, ap, ap₂, _∙_, subst}
 use mathlib.Core.Bool.{Bool, true, false, _||_}
 use mathlib.Core.Logic.{_≢_}
 use Prim.Native.Nat.{ℕ, zero, suc, _+_, _-_, _*_, _/_, _%_, _^_, _≤_, _<_, max, suc-le-suc}
-use native.Mathlib.Nat.{add-zero, add-comm, add-div-right, add-mul-div-right, div-lt-iff-lt-mul, div-one, le-dest, le-div-iff-mul-le, mod-eq-of-lt, mod-lt, mul-assoc, mul-mod-left, one-mul, pow-suc, zero-lt-suc}
+use native.Mathlib.Nat.{add-zero, add-comm, add-div-right, add-mul-div-right, div-lt-iff-lt-mul, div-one, le-dest, le-div-iff-mul-le}
+use native.Mathlib.Nat.{mod-eq-of-lt, mod-lt, mul-assoc, mul-mod-left, one-mul, pow-suc, zero-lt-suc}
 use native.Mathlib.Numerals.{add-one, one-add}
 use native.Mathlib.Decide.{decLt}
 use native.Mathlib.Omega.{arith}
@@ -15,8 +17,8 @@ use lib.Dec.{eqb, ltb}
 use lib.Pow.{pow-pos, pow-add, mod-pow-add, pow-lt, shl-shr, shr-lt, shr-shr, high}
 use Rattle.laws.specs.Counting.{one, sum}
 use Rattle.laws.specs.Bits.{digit, number}
-use Rattle.laws.proofs.Sums.{sum-zero}
-use Rattle.laws.proofs.Ranks.{sum-below, sum-range, eqb-both}
+use Rattle.laws.proofs.Cases.{eqb-both}
+use Rattle.laws.proofs.Sums.{sum-zero, sum-same, sum-split}
 
 pub digit-lt : (w k : ℕ) → digit w k < 2
 digit-lt w k = omega arith
@@ -34,7 +36,7 @@ digits-sum w (suc k) = low-suc w k ∙ omega (arith, digits-sum w k)
 -- so two numbers below 2 ^ k with the same k digits are equal
 pub digit-ext : (k w v : ℕ) → w < 2 ^ k → v < 2 ^ k → ((j : ℕ) → j < k → digit w j ≡ digit v j) → w ≡ v
 digit-ext k w v hw hv e =
-    sym (mod-eq-of-lt hw) ∙ digits-sum w k ∙ sum-below _ _ k (λ j l. ap (λ (d : ℕ). d * 2 ^ j) (e j l)) ∙ sym (digits-sum v k) ∙ mod-eq-of-lt hv
+    sym (mod-eq-of-lt hw) ∙ digits-sum w k ∙ sum-same _ _ k (λ j l. ap (λ (d : ℕ). d * 2 ^ j) (e j l)) ∙ sym (digits-sum v k) ∙ mod-eq-of-lt hv
 
 -- the number whose digits are given
 pub number-lt : (s : ℕ → Bool) (n : ℕ) → number s n < 2 ^ n
@@ -66,7 +68,8 @@ number-digit s (suc n) k h = elim (decLt k n) [
   | yes l ↦ above-digit (one (s n)) (number s n) k n l ∙ number-digit s n k l
   | no m ↦
       let e : k ≡ n = omega arith in
-      let f : (number s n + one (s n) * 2 ^ n) / 2 ^ n ≡ one (s n) = ap (λ (x : ℕ). x / 2 ^ n) (add-comm (number s n) (one (s n) * 2 ^ n)) ∙ high (one (s n)) n (number-lt s n) in
+      let f : (number s n + one (s n) * 2 ^ n) / 2 ^ n ≡ one (s n) =
+      ap (λ (x : ℕ). x / 2 ^ n) (add-comm (number s n) (one (s n) * 2 ^ n)) ∙ high (one (s n)) n (number-lt s n) in
       rw (e, f) (go (s n))
 ]
   where
@@ -84,12 +87,12 @@ number-low s t n h e =
     let w : ℕ → ℕ = λ k. one (s k) * 2 ^ k in
     let q : n ≡ t + (n - t) = omega arith in
     let low : sum w t ≡ 2 ^ t - 1 =
-    sum-below w (λ k. 1 * 2 ^ k) t (λ k l. ap (λ (b : Bool). one b * 2 ^ k) (e k (omega arith) ∙ lt-ltb k t l)) ∙ full t in
+    sum-same w (λ k. 1 * 2 ^ k) t (λ k l. ap (λ (b : Bool). one b * 2 ^ k) (e k (omega arith) ∙ lt-ltb k t l)) ∙ full t in
     let up : sum (λ k. w (t + k)) (n - t) ≡ 0 =
-    sum-below (λ k. w (t + k)) (λ k. 0) (n - t)
+    sum-same (λ k. w (t + k)) (λ k. 0) (n - t)
     (λ k l. ap (λ (b : Bool). one b * 2 ^ (t + k)) (e (t + k) (omega arith) ∙ le-ltb (t + k) t (omega arith)) ∙ omega arith)
     ∙ sum-zero (n - t) in
-    ap (sum w) q ∙ sum-range w t (n - t) ∙ omega arith
+    ap (sum w) q ∙ sum-split w t (n - t) ∙ omega arith
 
 -- ---- one digit set by a sum, where it was 0
 
@@ -164,7 +167,9 @@ digit-or a b k =
 pub number-or : (s t : ℕ → Bool) (n : ℕ) → bitOr (number s n) (number t n) ≡ number (λ k. s k || t k) n
 number-or s t n =
     digit-ext n _ _ (or-lt n _ _ (number-lt s n) (number-lt t n)) (number-lt (λ k. s k || t k) n)
-    (λ k l. digit-or (number s n) (number t n) k ∙ ap₂ max (number-digit s n k l) (number-digit t n k l) ∙ go (s k) (t k) ∙ sym (number-digit (λ j. s j || t j) n k l))
+    (λ k l.
+    digit-or (number s n) (number t n) k ∙ ap₂ max (number-digit s n k l) (number-digit t n k l)
+    ∙ go (s k) (t k) ∙ sym (number-digit (λ j. s j || t j) n k l))
   where
     go : (a b : Bool) → max (one a) (one b) ≡ one (a || b)
     go true true = refl

@@ -2,8 +2,8 @@ pub mod Cases
 pub mod Sums
 pub mod Counts
 pub mod Blocks
-pub mod Ranks
 pub mod Digits
 pub mod Words
 pub mod Packing
 pub mod Ones
+pub mod Parts

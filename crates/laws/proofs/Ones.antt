@@ -11,15 +11,15 @@ use lib.ListN.{getD}
 use lib.Pow.{shr-lt}
 use Rattle.laws.specs.Counting.{one, sum, rank}
 use Rattle.laws.specs.Bits.{digit, has, Words}
-use Rattle.laws.proofs.Ranks.{sum-range, sum-below}
+use Rattle.laws.proofs.Sums.{sum-split, sum-same}
 use Rattle.laws.proofs.Digits.{ones-low, digit-shr}
 use Rattle.laws.proofs.Words.{has-digit}
 
 -- the set bits below a position: those before its word, and the ones below it in its own
 pub rank-word : (ws : List ℕ) (i k : ℕ) → k ≤ 64 → rank (has ws) (64 * i + k) ≡ rank (has ws) (64 * i) + ones (getD ws i 0 % 2 ^ k)
 rank-word ws i k h =
-    sum-range (λ p. one (has ws p)) (64 * i) k
-    ∙ ap (λ (n : ℕ). rank (has ws) (64 * i) + n) (sum-below _ _ k (λ j l. has-digit ws i j (omega arith)) ∙ sym (ones-low (getD ws i 0) k))
+    sum-split (λ p. one (has ws p)) (64 * i) k
+    ∙ ap (λ (n : ℕ). rank (has ws) (64 * i) + n) (sum-same _ _ k (λ j l. has-digit ws i j (omega arith)) ∙ sym (ones-low (getD ws i 0) k))
 
 -- one word more
 pub rank-next : (ws : List ℕ) → Words ws → (i : ℕ) → rank (has ws) (64 * (i + 1)) ≡ rank (has ws) (64 * i) + ones (getD ws i 0)
@@ -41,7 +41,7 @@ rank-rest ws f i k h =
     let w : ℕ = getD ws i 0 in
     let e : 64 - k + k ≡ 64 = omega arith in
     let l : w / 2 ^ k < 2 ^ (64 - k) = shr-lt (64 - k) k (rw e (f i)) in
-    sum-below _ (λ j. digit (w / 2 ^ k) j) (64 - k)
+    sum-same _ (λ j. digit (w / 2 ^ k) j) (64 - k)
     (λ j m.
     let a : 64 * i + k + j ≡ 64 * i + (k + j) = omega arith in
     ap (λ (p : ℕ). one (has ws p)) a ∙ has-digit ws i (k + j) (omega arith) ∙ sym (digit-shr w k j))

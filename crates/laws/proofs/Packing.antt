@@ -1,24 +1,25 @@
 -- Packing a plain set into words and reading it back: the bits decide the words. Assumes nothing.
-use mathlib.Core.Path.{_≡_, refl, sym, ap, _∙_}
+use mathlib.Core.Path.{_≡_, refl, sym, ap, ap₂, _∙_}
 use mathlib.Core.Bool.{Bool}
 use mathlib.Core.List.{List, [], _∷_, _++_}
 use Prim.Native.Nat.{ℕ, suc, _+_, _-_, _*_, _/_, _%_, _^_, _≤_, _<_}
 use native.Mathlib.Nat.{add-zero, le-refl, mod-eq-of-lt, mod-lt}
 use native.Mathlib.Omega.{arith}
 use lib.Dec.{ltb, lit<, lit≤}
-use lib.ListN.{length, getD, take, replicate, length-replicate, getD-replicate}
+use lib.ListN.{length, getD, take, drop, replicate, take-append-drop, length-replicate, getD-replicate}
 use lib.Seq.{ext-getD, length-take-le, take-length, getD-take}
 use Rattle.laws.specs.Counting.{one}
 use Rattle.laws.specs.Bits.{digit, has, Words, number, wordOf, packed}
-use Rattle.laws.proofs.Blocks.{length-blocks, blocks-at}
-use Rattle.laws.proofs.Ranks.{one-inj, sum-ones, sum-below, blocks-below}
+use Rattle.laws.proofs.Cases.{one-inj}
+use Rattle.laws.proofs.Sums.{sum-ones, sum-same}
+use Rattle.laws.proofs.Blocks.{length-blocks, blocks-at, blocks-same}
 use Rattle.laws.proofs.Digits.{digits-sum, number-digit, number-low}
 use Rattle.laws.proofs.Words.{has-at, has-digit}
 
 -- the low k digits of a word of a list, from its bits
 pub number-has : (ws : List ℕ) (i k : ℕ) → k ≤ 64 → number (λ j. has ws (64 * i + j)) k ≡ getD ws i 0 % 2 ^ k
 number-has ws i k h =
-    sum-below _ _ k (λ j l. ap (λ (d : ℕ). d * 2 ^ j) (has-digit ws i j (omega arith))) ∙ sym (digits-sum (getD ws i 0) k)
+    sum-same _ _ k (λ j l. ap (λ (d : ℕ). d * 2 ^ j) (has-digit ws i j (omega arith))) ∙ sym (digits-sum (getD ws i 0) k)
 
 pub word-has : (ws : List ℕ) (i : ℕ) → getD ws i 0 < 2 ^ 64 → wordOf (has ws) i ≡ getD ws i 0
 word-has ws i h = number-has ws i 64 (lit≤ tt) ∙ mod-eq-of-lt h
@@ -50,7 +51,7 @@ packed-suc n s = refl
 pub packed-below : (n : ℕ) (s t : ℕ → Bool) → ((b : ℕ) → b < 64 * n → s b ≡ t b) → packed n s ≡ packed n t
 unfolding packed
 packed-below n s t e =
-    blocks-below _ _ n (λ i l. ap (λ (w : ℕ). w ∷ []) (sum-below _ _ 64 (λ k m. ap (λ (b : Bool). one b * 2 ^ k) (e (64 * i + k) (omega arith)))))
+    blocks-same _ _ n (λ i l. ap (λ (w : ℕ). w ∷ []) (sum-same _ _ 64 (λ k m. ap (λ (b : Bool). one b * 2 ^ k) (e (64 * i + k) (omega arith)))))
 
 -- words of which each has its low t digits set
 pub packed-low : (n t : ℕ) (s : ℕ → Bool) → t ≤ 64 → ((i k : ℕ) → i < n → k < 64 → s (64 * i + k) ≡ ltb k t) → packed n s ≡ replicate n (2 ^ t - 1)
@@ -71,6 +72,12 @@ packed-take n ws h f =
 
 pub packed-back : (ws : List ℕ) → Words ws → packed (length ws) (has ws) ≡ ws
 packed-back ws f = packed-take (length ws) ws (le-refl (length ws)) f ∙ take-length ws
+
+-- a store whose first n words hold a plain set, and which is as it was past them
+pub packed-store : (n : ℕ) (s : ℕ → Bool) (ws us : List ℕ) → n ≤ length us → Words us → ((b : ℕ) → b < 64 * n → s b ≡ has us b)
+    → drop n us ≡ drop n ws → us ≡ packed n s ++ drop n ws
+packed-store n s ws us h f e d =
+    sym (take-append-drop n us) ∙ ap₂ (λ (x y : List ℕ). x ++ y) (sym (packed-below n s (has us) e ∙ packed-take n us h f)) d
 
 -- two lists of words with the same bits are the same
 pub words-ext : (us vs : List ℕ) → length us ≡ length vs → Words us → Words vs → ((b : ℕ) → b < 64 * length us → has us b ≡ has vs b) → us ≡ vs

@@ -1,8 +1,8 @@
 -- The laws of sums over the numbers below a bound, and of ranks. Assumes nothing.
 use mathlib.Core.Path.{_≡_, refl, sym, ap}
 use mathlib.Core.Bool.{Bool, true, false}
-use Prim.Native.Nat.{ℕ, zero, suc, _+_, _*_, _≤_, _<_}
-use native.Mathlib.Nat.{mul-zero, add-zero, add-suc}
+use Prim.Native.Nat.{ℕ, zero, suc, _+_, _*_, _≤_, _<_, zero-le}
+use native.Mathlib.Nat.{mul-zero, add-zero, add-suc, le-step, lt-suc-self}
 use native.Mathlib.Decide.{le-ind}
 use native.Mathlib.Omega.{arith}
 use lib.Dec.{eqb, ltb}
@@ -106,3 +106,27 @@ select f n k h = let t = part (λ p. one (f p)) n k h in go t (f (t .at)) refl
     go : (t : Part (λ p. one (f p)) n k) (b : Bool) → f (t .at) ≡ b → Nth f n k
     go t true e = record { at = t .at; at-lt = t .at-lt; passes = e; nth = omega (arith, ap one e, t .from, t .to) }
     go t false e = absurd (omega (arith, ap one e, t .from, t .to))
+
+pub sum-ones : (n : ℕ) → sum (λ p. 1) n ≡ n
+sum-ones zero = refl
+sum-ones (suc n) = omega (arith, sum-ones n)
+
+pub rank-none : (f : ℕ → Bool) (n : ℕ) → ((k : ℕ) → k < n → f k ≡ false) → rank f n ≡ 0
+rank-none f zero e = refl
+rank-none f (suc n) e = omega (arith, rank-none f n (λ k l. e k (le-step l)), ap one (e n (lt-suc-self n)))
+
+-- and a test that passes nowhere below n fails at each number there
+pub none-rank : (f : ℕ → Bool) (n : ℕ) → rank f n ≡ 0 → (k : ℕ) → k < n → f k ≡ false
+none-rank f n e k l = go (f k) refl
+  where
+    go : (t : Bool) → f k ≡ t → t ≡ false
+    go true h = absurd (omega (arith, rank-lt f k n h l))
+    go false h = refl
+
+pub rank-le : (f : ℕ → Bool) (n : ℕ) → rank f n ≤ n
+rank-le f zero = zero-le
+rank-le f (suc n) = omega (arith, rank-le f n, go (f n))
+  where
+    go : (t : Bool) → one t ≤ 1
+    go true = omega arith
+    go false = omega arith

@@ -1,7 +1,7 @@
 -- Lists of words bit by bit: a bit as a digit, and one bit set or cleared. Assumes nothing.
 use mathlib.Core.Path.{_≡_, refl, sym, ap, _∙_}
 use mathlib.Core.Bool.{Bool, true, false, not, cond, _||_, _&&_}
-use mathlib.Core.List.{List}
+use mathlib.Core.List.{List, _++_}
 use mathlib.Core.Logic.{_≢_}
 use Prim.Native.Nat.{ℕ, _+_, _-_, _*_, _/_, _%_, _^_, _≤_, _<_}
 use native.Mathlib.Nat.{lt-of-le-of-lt, mod-lt, sub-le}
@@ -9,12 +9,11 @@ use native.Mathlib.Decide.{ℕ-discrete}
 use native.Mathlib.Omega.{arith}
 use borrow.Author.Tests.{eqb-true, eqb-false, eq-eqb, ne-eqb}
 use lib.Dec.{eqb, lit<}
-use lib.ListN.{length, getD, set, drop, length-set}
+use lib.ListN.{length, getD, set, drop, length-set, List·getD-append}
 use lib.Seq.{getD-set-same, getD-set-other, set-getD, set-out, drop-set-lt}
 use Rattle.laws.specs.Counting.{one}
 use Rattle.laws.specs.Bits.{digit, bitAt, has, Words, withBit, withoutBit}
-use Rattle.laws.proofs.Cases.{tri, Tri, lt, eq, gt}
-use Rattle.laws.proofs.Ranks.{one-inj}
+use Rattle.laws.proofs.Cases.{tri, Tri, lt, eq, gt, one-inj}
 use Rattle.laws.proofs.Digits.{digit-lt, up-same, up-other, up-fits, down-same, down-other}
 
 -- ---- a bit as a digit
@@ -41,6 +40,11 @@ has-set ws b e = eq-eqb _ _ e
 pub has-clear : (ws : List ℕ) (b : ℕ) → (digit (getD ws (b / 64) 0) (b % 64) ≡ 1 → ⊥) → has ws b ≡ false
 unfolding has bitAt
 has-clear ws b e = ne-eqb _ _ e
+
+-- the bits of the first of two lists
+pub has-append : (us vs : List ℕ) (b : ℕ) → b / 64 < length us → has (us ++ vs) b ≡ has us b
+unfolding has bitAt
+has-append us vs b h = ap (λ (w : ℕ). eqb (digit w (b % 64)) 1) (List·getD-append us vs 0 (b / 64) h)
 
 -- ---- one bit put to t: its word is another, of which only that digit may be new
 

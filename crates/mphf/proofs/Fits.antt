@@ -12,7 +12,7 @@ use Rattle.bounds.specs.Bounds.{maxIds, maxBits, minBits, maxLevels}
 use Rattle.laws.specs.Counting.{rank}
 use Rattle.laws.specs.Bits.{wordsFor}
 use Rattle.laws.proofs.Cases.{both}
-use Rattle.laws.proofs.Ranks.{rank-none, none-rank}
+use Rattle.laws.proofs.Sums.{rank-none, none-rank}
 use Rattle.mphf.specs.Layout.{samplesOfSize, sizeAt, wordStart, sampleStart, sizeFits, fit}
 use Rattle.mphf.specs.Fit.{Fit}
 

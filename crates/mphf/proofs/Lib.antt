@@ -1,5 +1,6 @@
 pub mod Fits
 pub mod Finds
+pub mod Turns
 pub mod Lists
 pub mod Marks
 pub mod Sent

@@ -16,10 +16,9 @@ use lib.ListN.{length, getD, set, take, drop, length-set, take-append-drop}
 use lib.Seq.{drop-cons, drop-length, length-take-le, drop-set-lt, getD-set-same, getD-set-other, getD-take, ext-getD}
 use Rattle.laws.specs.Counting.{one, sum, rank, sift}
 use Rattle.laws.proofs.Cases.{both, one-lt}
-use Rattle.laws.proofs.Sums.{sum-zero, sum-add, sum-same, sum-point}
+use Rattle.laws.proofs.Sums.{sum-zero, sum-add, sum-same, sum-point, sum-ones, rank-none, none-rank}
 use Rattle.laws.proofs.Counts.{length-sift}
 use Rattle.laws.proofs.Blocks.{length-blocks, blocks-at}
-use Rattle.laws.proofs.Ranks.{sum-ones, rank-none, none-rank}
 use Rattle.mphf.specs.Rows.{isNone, isRow, rowless, sent, apart, listed}
 use Rattle.mphf.specs.Passes.{withId, withIds}
 

@@ -1,25 +1,22 @@
 -- A build: 01's checks in their order, then the run of levels, laid out in the stores.
 use Prim.Native.Nat.{ℕ}
 use mathlib.Core.Bool.{Bool, not, cond, _&&_}
-use mathlib.Core.List.{List, []}
+use mathlib.Core.List.{List}
 use lib.Dec.{leb}
 use lib.Ieee.{Float}
 use lib.ListN.{length}
 use Rattle.bounds.specs.Bounds.{maxIds, maxLevels}
+use Rattle.bitvector.specs.declared.Made.{Made}
+use Rattle.bitvector.specs.declared.Made.the-variants.{Done, Refused}
 use Rattle.laws.specs.Bits.{wordsFor}
 use Rattle.refusal.specs.Table.{numberOf, valueOf}
+use Rattle.refusal.specs.declared.Refusal.{Refusal}
+use Rattle.refusal.specs.declared.Refusal.the-variants.{GammaTooSmall, GammaTooLarge, TooManyIds, ShortWorkStore}
 use Rattle.rule.specs.Rule.{Outcome, built, noRoom, idsLeft, run}
 use Rattle.sizes.specs.Gamma.{aboveMin, aboveMax}
 use Rattle.sizes.specs.Sizes.{sizeFor}
-use Rattle.mphf.specs.Index.{ruleOf, roomOf, zeros, filled, indexWords, indexSamples, indexHead, noHead}
+use Rattle.mphf.specs.Index.{Stores, zeros, filled, ruleOf, roomOf, indexWords, indexSamples, indexHead, noHead}
 use Rattle.mphf.specs.declared.fitting.Head.{Head}
-
--- the four stores of a build
-pub record Stores : Type 0 where
-  pub words : List ℕ
-  pub samples : List ℕ
-  pub collide : List ℕ
-  pub rest : List ℕ
 
 -- what a build leaves behind: 01's refusal number, 0 for none, with the value that it carries; the head; the stores
 pub record Built : Type 0 where
@@ -28,9 +25,27 @@ pub record Built : Type 0 where
   pub head : Head
   pub stores : Stores
 
--- a refused build: its head is all 0
-abbrev pub refusedBuild : ℕ → ℕ → Stores → Built
-refusedBuild number value stores = record { refusal = number; value = value; head = noHead; stores = stores }
+-- the answer and the head of the code's struct, beside the stores
+abbrev pub builtOf : Made → Head → Stores → Built
+builtOf Done head s = record { refusal = 0; value = 0; head = head; stores = s }
+builtOf (Refused r) head s = record { refusal = numberOf r; value = valueOf r; head = head; stores = s }
+
+-- ---- the checks
+
+-- a check in its turn: where it fails, its reason
+abbrev pub check : Bool → Refusal → Made → Made
+check test reason next = cond test next (Refused reason)
+
+-- the checks of a build of n ids, with work stores of so many places
+unfoldable pub buildChecks : Float → ℕ → ℕ → ℕ → Made
+buildChecks gamma n collideRoom restRoom =
+    check (aboveMin gamma) GammaTooSmall
+    (check (not (aboveMax gamma)) GammaTooLarge
+    (check (leb n maxIds) TooManyIds
+    (check (leb n restRoom && leb (wordsFor (sizeFor gamma n)) collideRoom) ShortWorkStore
+    Done)))
+
+-- ---- the end of a run
 
 -- stores with nothing but 0
 abbrev pub cleared : Stores → Stores
@@ -41,7 +56,11 @@ cleared s = record {
   rest = zeros (length (s .rest));
 }
 
--- what the run's outcome leaves: the index, with 0 past it; or the refusal 5 or 6 with its value, and stores of 0
+-- a refused run: its number and value, a head of 0, and stores of 0
+abbrev pub refusedRun : ℕ → ℕ → Stores → Built
+refusedRun number value s = record { refusal = number; value = value; head = noHead; stores = cleared s }
+
+-- what the run's outcome leaves: the index, with 0 past it and in the work stores; or the refusal 5, which gives the level, or 6, which gives how many remain
 abbrev pub ended : Float → List ℕ → Stores → Outcome → Built
 ended gamma ids s (built n) = record {
   refusal = 0;
@@ -54,18 +73,15 @@ ended gamma ids s (built n) = record {
     rest = zeros (length (s .rest));
   };
 }
-ended gamma ids s (noRoom i) = refusedBuild 5 i (cleared s)
-ended gamma ids s (idsLeft n) = refusedBuild 6 n (cleared s)
+ended gamma ids s (noRoom i) = refusedRun 5 i s
+ended gamma ids s (idsLeft n) = refusedRun 6 n s
 
--- a check in its turn: where it fails, its number, and the stores as they were
-abbrev pub check : Bool → ℕ → Stores → Built → Built
-check test number s next = cond test next (refusedBuild number 0 s)
+-- ---- the call
 
--- A build of the ids in the stores.
+-- A build of the ids in the stores: the checks 1 to 4, which leave the stores as they were, then the run.
+abbrev pub afterChecks : Made → Float → List ℕ → Stores → Built
+afterChecks (Refused r) gamma ids s = builtOf (Refused r) noHead s
+afterChecks Done gamma ids s = ended gamma ids s (run (ruleOf gamma) (roomOf (length (s .words)) (length (s .samples))) ids maxLevels)
+
 unfoldable pub buildCall : Float → List ℕ → Stores → Built
-buildCall gamma ids s =
-    check (aboveMin gamma) 1 s
-    (check (not (aboveMax gamma)) 2 s
-    (check (leb (length ids) maxIds) 3 s
-    (check (leb (length ids) (length (s .rest)) && leb (wordsFor (sizeFor gamma (length ids))) (length (s .collide))) 4 s
-    (ended gamma ids s (run (ruleOf gamma) (roomOf (length (s .words)) (length (s .samples))) ids maxLevels)))))
+buildCall gamma ids s = afterChecks (buildChecks gamma (length ids) (length (s .collide)) (length (s .rest))) gamma ids s

@@ -21,10 +21,21 @@ ruleOf gamma = record { pos = position; size = sizeFor gamma }
 abbrev pub roomOf : ℕ → ℕ → Room
 roomOf wordRoom sampleRoom = record { words = wordsFor; samples = samplesOfSize; wordRoom = wordRoom; sampleRoom = sampleRoom }
 
--- a store with xs at its front and 0 in every other place
+-- the four stores of a build: words and samples of the index, and the work stores
+pub record Stores : Type 0 where
+  pub words : List ℕ
+  pub samples : List ℕ
+  pub collide : List ℕ
+  pub rest : List ℕ
+
+abbrev pub stores : List ℕ → List ℕ → List ℕ → List ℕ → Stores
+stores words samples collide rest = record { words = words; samples = samples; collide = collide; rest = rest }
+
+-- n places of 0
 abbrev pub zeros : ℕ → List ℕ
 zeros n = replicate n 0
 
+-- a store of so many places with xs at its front and 0 past it
 abbrev pub filled : List ℕ → ℕ → List ℕ
 filled xs room = xs ++ zeros (room - length xs)
 

@@ -1,4 +1,5 @@
 // Build, lookup and row list (01's module 6): the public calls over an index in lent stores.
+mod building;
 mod finding;
 mod fitting;
 mod listing;

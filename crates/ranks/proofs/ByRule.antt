@@ -7,8 +7,7 @@ use native.Mathlib.Omega.{arith}
 use lib.ListN.{length, getD}
 use Rattle.laws.specs.Counting.{one, rank}
 use Rattle.laws.specs.Bits.{has}
-use Rattle.laws.proofs.Sums.{sum-split, rank-same}
-use Rattle.laws.proofs.Ranks.{rank-none}
+use Rattle.laws.proofs.Sums.{sum-split, rank-same, rank-none}
 use Rattle.sizes.specs.Sizes.{samplesFor}
 use Rattle.rule.specs.Rule.{base, rowAt, sample}
 use Rattle.rule.proofs.Reader.{row-by-sample}

@@ -1,4 +1,3 @@
-pub mod Parts
 pub mod Ones
 pub mod Samples
 pub mod ByRule

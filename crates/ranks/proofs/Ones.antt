@@ -8,8 +8,7 @@ use lib.Count.{ones}
 use lib.ListN.{length, getD}
 use Rattle.laws.specs.Counting.{one, sum, rank}
 use Rattle.laws.specs.Bits.{has, Words}
-use Rattle.laws.proofs.Sums.{sum-split}
-use Rattle.laws.proofs.Ranks.{rank-le}
+use Rattle.laws.proofs.Sums.{sum-split, rank-le}
 use Rattle.laws.proofs.Digits.{ones-shl}
 use Rattle.laws.proofs.Ones.{rank-word, rank-words}
 use Rattle.ranks.specs.Ranks.{setBits, onesFrom}

@@ -9,9 +9,8 @@ use lib.ListN.{length, getD, take, drop, set, length-append, length-drop}
 use lib.Seq.{drop-cons, set-at, take-at, drop-at}
 use Rattle.laws.specs.Counting.{rank}
 use Rattle.laws.specs.Bits.{has}
+use Rattle.laws.proofs.Sums.{rank-same, sum-ones}
 use Rattle.laws.proofs.Blocks.{blocks-same, length-blocks, blocks-at}
-use Rattle.laws.proofs.Sums.{rank-same}
-use Rattle.laws.proofs.Ranks.{sum-ones}
 use Rattle.sizes.specs.Sizes.{samplesFor}
 use Rattle.ranks.specs.Ranks.{firstSamples, samplesOf, onesFrom, withSamples}
 use Rattle.ranks.proofs.Ones.{rank-from}

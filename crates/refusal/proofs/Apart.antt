@@ -6,7 +6,8 @@ use lib.Dec.{lit<}
 use lib.ListN.{getD}
 use Rattle.refusal.specs.Table.{numberOf, valueOf}
 use Rattle.refusal.specs.declared.Refusal.{Refusal}
-use Rattle.refusal.specs.declared.Refusal.the-variants.{GammaTooSmall, GammaTooLarge, TooManyIds, ShortWorkStore, NoRoomForLevel, IdsRemain, UnfitHead, UnfitRow, BitOutside, UnfitSet, ShortOutput, WrongIds}
+use Rattle.refusal.specs.declared.Refusal.the-variants.{GammaTooSmall, GammaTooLarge, TooManyIds, ShortWorkStore, NoRoomForLevel, IdsRemain}
+use Rattle.refusal.specs.declared.Refusal.the-variants.{UnfitHead, UnfitRow, BitOutside, UnfitSet, ShortOutput, WrongIds}
 
 -- the case of a number and a value
 abbrev pub caseOf : ℕ → ℕ → Refusal

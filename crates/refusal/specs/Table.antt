@@ -1,7 +1,8 @@
 -- 01's table of refusal numbers: the number of each case, and the value that it carries.
 use Prim.Native.Nat.{ℕ}
 use Rattle.refusal.specs.declared.Refusal.{Refusal}
-use Rattle.refusal.specs.declared.Refusal.the-variants.{GammaTooSmall, GammaTooLarge, TooManyIds, ShortWorkStore, NoRoomForLevel, IdsRemain, UnfitHead, UnfitRow, BitOutside, UnfitSet, ShortOutput, WrongIds}
+use Rattle.refusal.specs.declared.Refusal.the-variants.{GammaTooSmall, GammaTooLarge, TooManyIds, ShortWorkStore, NoRoomForLevel, IdsRemain}
+use Rattle.refusal.specs.declared.Refusal.the-variants.{UnfitHead, UnfitRow, BitOutside, UnfitSet, ShortOutput, WrongIds}
 
 abbrev pub numberOf : Refusal → ℕ
 numberOf GammaTooSmall = 1

@@ -6,7 +6,7 @@ use native.Mathlib.Omega.{arith}
 use lib.Count.{ones-le}
 use Rattle.laws.specs.Counting.{rank}
 use Rattle.laws.specs.Bits.{has}
-use Rattle.laws.proofs.Ranks.{rank-le}
+use Rattle.laws.proofs.Sums.{rank-le}
 use Rattle.laws.proofs.Ones.{rank-next}
 use Rattle.bitvector.proofs.count_bits.Statement.{statement}
 use Rattle.bitvector.proofs.count_bits.Tie as tie
@@ -32,7 +32,9 @@ count-bits-spec =
     omega (arith, ones-le 64 _ (c .shared-slice-known .given i .fits), rank-le (has (c .before .before .before .args .words .now)) (64 * i)))
     (λ c. omega arith)
     (λ c. omega arith)
-    (λ c. (omega arith, omega (arith, rank-next (c .before .before .before .args .words .now) (λ i. c .shared-slice-known .given i .fits) (c .before .before .loop .i))))
+    (λ c.
+    let words = rank-next (c .before .before .before .args .words .now) (λ i. c .shared-slice-known .given i .fits) (c .before .before .loop .i) in
+    (omega arith, omega arith))
     (λ c.
     let a = c .before .before .args in
     let e : c .before .loop .i ≡ a .n = omega arith in

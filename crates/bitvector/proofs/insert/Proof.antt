@@ -20,7 +20,7 @@ insert-spec =
     (λ c κs. search needs)
     (λ c. search needs)
     (λ c.
-    let s = c .before .before .before .before .before .before .before in
-    c .yes-if .ensures _ ∙ rw (c .before .before .before .add-bit .ensures .old, c .before .before .before .add-bit .ensures .words)
-    (inserted _ _ _ (passed (s .is-sound .ensures) (c .before .before .before .before .before .before .if1 .left)) (c .before .before .before .before .before .if2 .left)
-    (λ i. s .before .before .slice-known .given i .fits))))
+    let e = c .before .before .before .before .before in
+    let s = passed (e .before .before .is-sound .ensures) (e .before .if1 .left) in
+    let step = c .before .before .before .add-bit .ensures in
+    c .yes-if .ensures _ ∙ rw (step .old, step .words) (inserted _ _ _ s (e .if2 .left) (λ i. e .before .before .before .before .slice-known .given i .fits))))

@@ -4,7 +4,7 @@ use borrow.Author.Tests.{ne-eqb}
 use mathlib.Core.Path.{_∙_}
 use native.Mathlib.Omega.{arith}
 use Rattle.bitvector.proofs.Soundness.{passed, failed, sound-room}
-use Rattle.bitvector.proofs.Agreement.{joined}
+use Rattle.bitvector.proofs.Joining.{joined}
 use Rattle.bitvector.proofs.insert_all.Statement.{statement}
 use Rattle.bitvector.proofs.insert_all.Tie as tie
 
@@ -25,15 +25,15 @@ insert-all-spec =
     rw (s, t, ne-eqb _ _ (c .if3 .taken)))
     (λ c κs. sound-room _ _ (passed (c .before .before .before .before .before .is-sound .ensures) (c .before .before .before .before .if1 .left)) .bound)
     (λ c κs.
-    let s = sound-room _ _ (passed (c .before .before .before .before .before .before .is-sound .ensures) (c .before .before .before .before .before .if1 .left)) in
-    let t = sound-room _ _ (passed (c .before .before .before .before .is-sound2 .ensures) (c .before .before .before .if2 .left)) in
+    let e = c .before .before in
+    let s = sound-room _ _ (passed (e .before .before .before .before .is-sound .ensures) (e .before .before .before .if1 .left)) in
+    let t = sound-room _ _ (passed (e .before .before .is-sound2 .ensures) (e .before .if2 .left)) in
     omega arith)
     (λ c κs. search needs)
     (λ c. search needs)
     (λ c.
-    let e = c .before .before .before .before .before .before .before in
-    let s = passed (e .before .before .before .is-sound .ensures) (e .before .before .if1 .left) in
-    let t = passed (e .before .is-sound2 .ensures) (e .if2 .left) in
-    let j = c .before .before .before .join .ensures in
-    c .yes-if .ensures _ ∙ rw (j .new, j .words, c .before .before .before .before .u64s .ensures)
-    (joined _ _ _ _ s t (c .before .before .before .before .before .before .if3 .left))))
+    let e = c .before .before .before .before .before .before in
+    let s = passed (e .before .before .before .before .is-sound .ensures) (e .before .before .before .if1 .left) in
+    let t = passed (e .before .before .is-sound2 .ensures) (e .before .if2 .left) in
+    let n = c .before .before .before .before .u64s .ensures in
+    c .yes-if .ensures _ ∙ joined _ _ _ _ s t (e .if3 .left) _ _ (rw n at (c .before .before .before .join .ensures))))

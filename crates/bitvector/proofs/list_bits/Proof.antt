@@ -43,8 +43,12 @@ list-bits-spec =
     let l = c .before .before .before .before .before .before .loop in
     let ws = c .before .before .before .before .before .before .before .before .before .args .words .now in
     let e = c .before .before .list-word .ensures in
-    let words = rank-next ws (λ j. c .before .before .before .before .shared-slice-known2 .given j .fits) (l .i) in
-    (omega arith, omega (arith, e .told, words), ap length (e .store) ∙ simp length-sets (l .inv .2), list-turn ws (l .out) _ _ (l .i) (l .next) (l .inv .3) (l .inv .1) (e .store)))
+    let words = rank-next ws (λ j. c .before .before .before .before .shared-slice-known2 .given j .fits) (l .i) in (
+      omega arith,
+      omega (arith, e .told, words),
+      ap length (e .store) ∙ simp length-sets (l .inv .2),
+      list-turn ws (l .out) _ _ (l .i) (l .next) (l .inv .3) (l .inv .1) (e .store),
+    ))
     (λ c. search needs)
     (λ c.
     let a = c .before .before .before .before .args in

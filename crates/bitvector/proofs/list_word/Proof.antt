@@ -1,7 +1,7 @@
 -- `bitvector::list_word` meets its contract. Assumes nothing.
 use borrow.Author.Needs.{needs}
 use mathlib.Core.Path.{_≡_, refl, sym, ap, _∙_}
-use Prim.Native.Nat.{ℕ, _+_, _^_, _<_}
+use Prim.Native.Nat.{_+_, _^_, _<_}
 use native.Mathlib.Numerals.{add-one}
 use native.Mathlib.Omega.{arith}
 use lib.Count.{ones, trailingZeros}
@@ -42,8 +42,12 @@ list-word-spec =
     (λ c.
     let v = c .before .loop .inv in
     let t = turned c in
-    rw (t .shifted, add-one (c .before .loop .next))
-    (omega arith, omega arith, simp length-set (v .2), sym (ap (sets (c .before .loop .out) (c .before .loop .next)) (places-pop _ _ (v .0) (c .loop-test .taken))) ∙ v .3))
+    rw (t .shifted, add-one (c .before .loop .next)) (
+      omega arith,
+      omega arith,
+      simp length-set (v .2),
+      sym (ap (sets (c .before .loop .out) (c .before .loop .next)) (places-pop _ _ (v .0) (c .loop-test .taken))) ∙ v .3,
+    ))
     (λ c. search needs)
     (λ c.
     let z = c .loop-test .left in

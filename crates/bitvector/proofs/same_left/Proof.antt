@@ -29,15 +29,18 @@ same-left-spec =
     (λ c. omega arith)
     (λ c.
     let i : ℕ = c .before .before .before .before .loop .i in
-    sym (no-more _ _ i (c .before .before .shared-slice-known .given i .fits) (c .before .shared-slice-known2 .given i .fits) (c .before .before .before .before .before .args .bit) (omega arith)
-    (c .before .before .before .before .loop .inv .2)
-    (c .if1 .taken)))
+    let hw = c .before .before .shared-slice-known .given i .fits in
+    let hu = c .before .shared-slice-known2 .given i .fits in
+    let n = c .before .before .before .before .before .args .bit in
+    sym (no-more _ _ i hw hu n (omega arith) (c .before .before .before .before .loop .inv .2) (c .if1 .taken)))
     (λ c. omega arith)
     (λ c. omega arith)
     (λ c.
     let i : ℕ = c .before .before .before .before .loop .i in
     let v = c .before .before .before .before .loop .inv in
-    (omega arith, v .1, still-same _ _ i (c .before .before .shared-slice-known .given i .fits) (c .before .shared-slice-known2 .given i .fits) (v .2) (c .if1 .left)))
+    let hw = c .before .before .shared-slice-known .given i .fits in
+    let hu = c .before .shared-slice-known2 .given i .fits in
+    (omega arith, v .1, still-same _ _ i hw hu (v .2) (c .if1 .left)))
     (λ c.
     let a = c .before .before .before .args in
     let e : a .bit ≡ 64 * c .before .before .loop .i = omega arith in

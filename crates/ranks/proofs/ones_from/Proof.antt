@@ -5,7 +5,7 @@ use native.Mathlib.Omega.{arith}
 use lib.Count.{ones-le}
 use Rattle.laws.specs.Counting.{rank}
 use Rattle.laws.specs.Bits.{has}
-use Rattle.laws.proofs.Ranks.{rank-le}
+use Rattle.laws.proofs.Sums.{rank-le}
 use Rattle.laws.proofs.Ones.{rank-next}
 use Rattle.ranks.proofs.Ones.{counted-from, counted-own}
 use Rattle.ranks.proofs.ones_from.Statement.{statement}

@@ -7,7 +7,7 @@ use lib.Count.{ones-le}
 use lib.ListN.{length}
 use Rattle.laws.specs.Counting.{rank}
 use Rattle.laws.specs.Bits.{has}
-use Rattle.laws.proofs.Ranks.{rank-le}
+use Rattle.laws.proofs.Sums.{rank-le}
 use Rattle.laws.proofs.Ones.{rank-next}
 use Rattle.ranks.specs.Ranks.{setBits}
 use Rattle.ranks.proofs.Samples.{sampledTo, sampled-none, length-sampled, starts-sample, within-sample}

@@ -1,0 +1,34 @@
+-- Parts of a store: one that is returned, and one from a place on that is lent for writing; and places that all hold one number. Assumes nothing.
+use mathlib.Core.Path.{_≡_, sym, ap, _∙_}
+use mathlib.Core.List.{List, _++_, append-nil}
+use Prim.Native.Nat.{ℕ, _+_, _-_, _≤_}
+use native.Mathlib.Nat.{le-dest}
+use native.Mathlib.Omega.{arith}
+use lib.ListN.{length, take, drop, replicate, length-take, length-drop, drop-of-length-le, length-replicate, replicate-append-replicate}
+use lib.Seq.{take-all, take-at, drop-at}
+
+-- a part has as many places as it was asked for
+pub length-part : (at n : ℕ) (store : List ℕ) → at + n ≤ length store → {part : List ℕ} → part ≡ take n (drop at store) → length part ≡ n
+length-part at n store h e = rw e (simp (length-take, length-drop) (omega arith))
+
+-- a call that acts as f on the places from `at` on, and was lent all of them, leaves the places before as they were
+pub lent-from : (f : List ℕ → List ℕ) (at : ℕ) (store : List ℕ) {part : List ℕ} → part ≡ f (take (length store - at) (drop at store))
+    → take at store ++ (part ++ drop (length store - at) (drop at store)) ≡ take at store ++ f (drop at store)
+lent-from f at store e =
+    let l : length (drop at store) ≤ length store - at = rw length-drop (omega arith) in
+    rw (e, take-all (length store - at) (drop at store) l, drop-of-length-le (drop at store) l, append-nil)
+
+-- ---- places that all hold one number
+
+pub take-same : (n m v : ℕ) → n ≤ m → take n (replicate m v) ≡ replicate n v
+take-same n m v h =
+    let d = le-dest h in
+    ap (λ (k : ℕ). take n (replicate k v)) (sym (d .1)) ∙ ap (take n) (sym (replicate-append-replicate n (d .0) v))
+    ∙ take-at (replicate n v) (replicate (d .0) v) n (length-replicate n v)
+
+pub drop-same : (n m v : ℕ) → n ≤ m → drop n (replicate m v) ≡ replicate (m - n) v
+drop-same n m v h =
+    let d = le-dest h in
+    let e : m - n ≡ d .0 = omega arith in
+    rw e (ap (λ (k : ℕ). drop n (replicate k v)) (sym (d .1)) ∙ ap (drop n) (sym (replicate-append-replicate n (d .0) v))
+    ∙ drop-at (replicate n v) (replicate (d .0) v) n (length-replicate n v))

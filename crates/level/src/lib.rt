@@ -1,0 +1,90 @@
+// One level of a build (01's module 4, boomphf's `Context`): the ids that come to it are marked, then those whose position is shared are filtered out and go
+// on. It works in lent words that start at the level and in the first words of collide. An id's bit is its position among the `size` bits of the level.
+ghost use mathlib.Core.Path.{_≡_};
+ghost use Prim.Native.Nat.{_≤_};
+ghost use lib.ListN.{length};
+ghost use Rattle.laws.specs.Bits.{wordsFor};
+ghost use Rattle.mixer.specs.Position.{position};
+ghost use Rattle.level.specs.Level.{Ready, Clear, stores, markOne, markAll, OneFiltered, Filtered, Placed};
+use bitvector::add_bit;
+use bitvector::drop_bit;
+use bitvector::has_bit;
+use mixer::hashmod;
+
+// Marks one id: its bit is set in the level where it is met first, in collide where it is met again.
+pub fn mark_one(level: u64, size: u64, id: u64, words: &mut [u64], collide: &mut [u64])
+    requires { ⌜ Ready size (now words) (now collide) ⌝ }
+    ensures { λ _. ⌜ stores (now (words .exit)) (now (collide .exit))
+        ≡ markOne (position level size) (stores (now (words .entry)) (now (collide .entry))) id ⌝ }
+{
+    let bit = hashmod(level, id, size);
+    if !has_bit(collide, bit) && add_bit(words, bit) {
+        add_bit(collide, bit);
+    }
+}
+
+// Marks each id.
+pub fn mark(level: u64, size: u64, ids: &[u64], words: &mut [u64], collide: &mut [u64])
+    requires { ⌜ Ready size (now words) (now collide) ⌝ }
+    ensures { λ _. ⌜ stores (now (words .exit)) (now (collide .exit))
+        ≡ markAll (position level size) (stores (now (words .entry)) (now (collide .entry))) (now (ids .entry)) ⌝ }
+{
+    for i in 0..ids.len() {
+        mark_one(level, size, ids[i], words, collide);
+    }
+}
+
+// Filters one id: whether it goes on. If so, its bit is cleared.
+pub fn filter_one(level: u64, size: u64, id: u64, words: &mut [u64], collide: &[u64]) -> bool
+    requires { ⌜ Ready size (now words) (now collide) ⌝ }
+    ensures { λ r. ⌜ OneFiltered (position level size) (now (collide .entry)) (now (words .entry)) id r (now (words .exit)) ⌝ }
+{
+    let bit = hashmod(level, id, size);
+    if has_bit(collide, bit) {
+        drop_bit(words, bit);
+        return true;
+    }
+    false
+}
+
+// Filters the first `count` ids of the rest store. Those that go on move to its front, in order; their number is answered.
+pub fn filter(
+    level: u64,
+    size: u64,
+    count: usize,
+    rest: &mut [u64],
+    words: &mut [u64],
+    collide: &[u64],
+) -> usize
+    requires { ⌜ Ready size (now words) (now collide) × (count ≤ length (now rest)) ⌝ }
+    ensures { λ r. ⌜ Filtered (position level size) (now (collide .entry)) count (now (words .entry)) (now (rest .entry))
+        r (now (words .exit)) (now (rest .exit)) ⌝ }
+{
+    let mut kept: usize = 0;
+    for i in 0..count {
+        let id = rest[i];
+        if filter_one(level, size, id, words, collide) {
+            rest[kept] = id;
+            kept += 1;
+        }
+    }
+    kept
+}
+
+// The whole level, for the first `count` ids of the rest store. How many go on is answered.
+pub fn place(
+    level: u64,
+    size: u64,
+    count: usize,
+    rest: &mut [u64],
+    words: &mut [u64],
+    collide: &mut [u64],
+) -> usize
+    requires { ⌜ Ready size (now words) (now collide) × (count ≤ length (now rest))
+        × Clear (wordsFor size) (now words) × Clear (wordsFor size) (now collide) ⌝ }
+    ensures { λ r. ⌜ Placed (position level size) size count (now (words .entry)) (now (collide .entry)) (now (rest .entry))
+        r (now (words .exit)) (now (collide .exit)) (now (rest .exit)) ⌝ }
+{
+    mark(level, size, &rest[..count], words, collide);
+    filter(level, size, count, rest, words, collide)
+}

@@ -1,0 +1,117 @@
+-- One level of a build, on stores in which the levels before it lie: what it asks and what it leaves, by the stores alone.
+use mathlib.Core.Path.{_≡_}
+use mathlib.Core.Bool.{Bool, cond, _&&_}
+use mathlib.Core.List.{List, _++_}
+use Prim.Native.Nat.{ℕ, _+_, _-_, _≤_, _<_}
+use lib.Dec.{leb}
+use lib.Ieee.{Float}
+use lib.ListN.{length, take, drop}
+use Rattle.bounds.specs.Bounds.{maxIds, maxBits, maxLevels}
+use Rattle.laws.specs.Bits.{wordsFor, packed}
+use Rattle.level.specs.Level.{fronted}
+use Rattle.mixer.specs.Position.{position}
+use Rattle.ranks.specs.Ranks.{setBits, samplesOf}
+use Rattle.rule.specs.Rule.{single, rest}
+use Rattle.sizes.specs.Gamma.{Allowed}
+use Rattle.sizes.specs.Sizes.{sizeFor, samplesFor}
+use Rattle.mphf.specs.Layout.{samplesOfSize}
+use Rattle.mphf.specs.Index.{Stores, stores, zeros}
+use Rattle.mphf.specs.declared.building.Progress.{Progress}
+use Rattle.mphf.specs.declared.building.Turn.{Turn}
+use Rattle.mphf.specs.declared.building.Turn.the-variants as T
+
+-- a store with xs in it from place k on
+abbrev pub pasted : ℕ → List ℕ → List ℕ → List ℕ
+pasted k xs store = take k store ++ (xs ++ drop (length xs) (drop k store))
+
+-- ---- the ids of a level, placed in its words
+
+-- the words from the level's place on, and the collide store, are there and are 0
+pub record Placeable (size count at : ℕ) (store words collide : List ℕ) : Type 0 where
+  pub positive : 0 < size
+  pub bound : size ≤ maxBits
+  pub in-store : count ≤ length store
+  pub in-words : at + wordsFor size ≤ length words
+  pub in-collide : wordsFor size ≤ length collide
+  pub clear-words : drop at words ≡ zeros (length words - at)
+  pub clear-collide : collide ≡ zeros (length collide)
+
+pub record PlacedAt (g : ℕ → ℕ) (size : ℕ) (ids : List ℕ) (at : ℕ) (store words collide : List ℕ) (told : ℕ) (store′ words′ collide′ : List ℕ) : Type 0 where
+  pub words-are : words′ ≡ pasted at (packed (wordsFor size) (single g ids)) words
+  pub collide-is : collide′ ≡ collide
+  pub store-is : store′ ≡ fronted (rest g ids) store
+  pub count-is : told ≡ length (rest g ids)
+
+-- ---- the samples of a level
+
+-- the level's words and its samples' places are there
+pub record Sampleable (at n before to : ℕ) (words samples : List ℕ) : Type 0 where
+  pub in-words : at + n ≤ length words
+  pub few-words : n ≤ wordsFor maxBits
+  pub few-set : before ≤ maxIds
+  pub in-samples : to + samplesFor n ≤ length samples
+
+pub record SampledAt (before to : ℕ) (ws samples : List ℕ) (told : ℕ) (samples′ : List ℕ) : Type 0 where
+  pub samples-are : samples′ ≡ pasted to (samplesOf before ws) samples
+  pub set-is : told ≡ before + setBits ws
+
+-- ---- the whole level
+
+-- the size of the next level
+abbrev pub nextSize : Float → Progress → ℕ
+nextSize gamma at = sizeFor gamma (at .remaining)
+
+-- What the next level asks.
+pub record Ready (gamma : Float) (at : Progress) (s : Stores) : Type 0 where
+  pub allowed : Allowed gamma
+  pub few-ids : at .remaining ≤ maxIds
+  pub few-levels : at .level < maxLevels
+  pub few-set : at .set ≤ maxIds
+  pub in-rest : at .remaining ≤ length (s .rest)
+  pub in-words : at .words ≤ length (s .words)
+  pub in-samples : at .samples ≤ length (s .samples)
+  pub in-collide : wordsFor (nextSize gamma at) ≤ length (s .collide)
+  pub clear-words : drop (at .words) (s .words) ≡ zeros (length (s .words) - at .words)
+  pub clear-collide : s .collide ≡ zeros (length (s .collide))
+
+-- what a level tells, and the stores that it leaves
+pub record Turned : Type 0 where
+  pub turn : Turn
+  pub stores : Stores
+
+abbrev pub turned : Turn → Stores → Turned
+turned turn s = record { turn = turn; stores = s }
+
+module _ (gamma : Float) (at : Progress) (s : Stores) where
+  -- whether there is room for the level
+  abbrev pub hasRoom : Bool
+  hasRoom = leb (at .words + wordsFor (nextSize gamma at)) (length (s .words)) && leb (at .samples + samplesOfSize (nextSize gamma at)) (length (s .samples))
+
+  -- the ids that come to it, each one's position, and the level's words
+  abbrev pub comers : List ℕ
+  comers = take (at .remaining) (s .rest)
+
+  abbrev pub spot : ℕ → ℕ
+  spot x = position (at .level) (nextSize gamma at) x
+
+  abbrev pub ownWords : List ℕ
+  ownWords = packed (wordsFor (nextSize gamma at)) (single spot comers)
+
+  -- The level stands after the others, its samples likewise, the ids that go on at the front of the rest store, and collide is 0 again; or there is no room.
+  unfoldable pub levelTurn : Turned
+  levelTurn =
+      cond hasRoom
+      (turned
+      (T.Placed (nextSize gamma at) (record {
+        level = at .level + 1;
+        remaining = length (rest spot comers);
+        words = at .words + wordsFor (nextSize gamma at);
+        samples = at .samples + samplesOfSize (nextSize gamma at);
+        set = at .set + setBits ownWords;
+      }))
+      (stores
+      (pasted (at .words) ownWords (s .words))
+      (pasted (at .samples) (samplesOf (at .set) ownWords) (s .samples))
+      (s .collide)
+      (fronted (rest spot comers) (s .rest))))
+      (turned T.NoRoom s)
