@@ -4,3 +4,9 @@ pub mod Turns
 pub mod Indexes
 pub mod Runs
 pub mod Builds
+pub mod Lists
+pub mod Marks
+pub mod Sent
+pub mod RowCalls
+pub mod RowPromise
+pub mod RowTable

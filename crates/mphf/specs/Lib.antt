@@ -5,3 +5,5 @@ pub mod Index
 pub mod Build
 pub mod Turn
 pub mod Run
+pub mod Rows
+pub mod Passes

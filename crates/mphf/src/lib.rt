@@ -2,6 +2,7 @@
 mod building;
 mod finding;
 mod fitting;
+mod listing;
 
 pub use building::Built;
 pub use building::build;
@@ -9,3 +10,4 @@ pub use finding::Found;
 pub use finding::Place;
 pub use finding::lookup;
 pub use fitting::Head;
+pub use listing::rows;
