@@ -35,7 +35,8 @@ pub fn build(
     collide: &mut [u64],
     rest: &mut [u64],
 ) -> Built
-    ensures { λ r. ⌜ builtOf (r .outcome) (r .head) (stores (now (words .exit)) (now (samples .exit)) (now (collide .exit)) (now (rest .exit))) ≡ buildCall gamma (now (ids .entry)) (stores (now (words .entry)) (now (samples .entry)) (now (collide .entry)) (now (rest .entry))) ⌝ }
+    ensures { λ r. ⌜ builtOf (r .outcome) (r .head) (stores (now (words .exit)) (now (samples .exit)) (now (collide .exit)) (now (rest .exit)))
+        ≡ buildCall gamma (now (ids .entry)) (stores (now (words .entry)) (now (samples .entry)) (now (collide .entry)) (now (rest .entry))) ⌝ }
 {
     let checked = check(
         gamma,
@@ -92,7 +93,8 @@ fn refused(why: Refusal) -> Built
 // Clears the stores, and puts the ids at the front of the rest store.
 fn begin(ids: &[u64], words: &mut [u64], samples: &mut [u64], collide: &mut [u64], rest: &mut [u64])
     requires { ⌜ length (now ids) ≤ length (now rest) ⌝ }
-    ensures { λ _. ⌜ stores (now (words .exit)) (now (samples .exit)) (now (collide .exit)) (now (rest .exit)) ≡ prepared (now (ids .entry)) (stores (now (words .entry)) (now (samples .entry)) (now (collide .entry)) (now (rest .entry))) ⌝ }
+    ensures { λ _. ⌜ stores (now (words .exit)) (now (samples .exit)) (now (collide .exit)) (now (rest .exit))
+        ≡ prepared (now (ids .entry)) (stores (now (words .entry)) (now (samples .entry)) (now (collide .entry)) (now (rest .entry))) ⌝ }
 {
     fill(words, words.len(), 0);
     fill(samples, samples.len(), 0);
@@ -118,7 +120,8 @@ fn end(
     words: &mut [u64],
     samples: &mut [u64],
 ) -> Built
-    ensures { λ r. ⌜ ((collide rest : List ℕ) → builtOf (r .outcome) (r .head) (stores (now (words .exit)) (now (samples .exit)) collide rest) ≡ runEnd run ids sizes (stores (now (words .entry)) (now (samples .entry)) collide rest)) ⌝ }
+    ensures { λ r. ⌜ ((collide rest : List ℕ) → builtOf (r .outcome) (r .head) (stores (now (words .exit)) (now (samples .exit)) collide rest)
+        ≡ runEnd run ids sizes (stores (now (words .entry)) (now (samples .entry)) collide rest)) ⌝ }
 {
     match run {
         Run::Built(levels) => Built {
@@ -136,7 +139,8 @@ fn end(
 
 // A refused run leaves nothing in the index's stores.
 fn refuse_run(why: Refusal, words: &mut [u64], samples: &mut [u64]) -> Built
-    ensures { λ r. ⌜ RunRefused why (now (words .entry)) (now (samples .entry)) (r .outcome) (r .head) (now (words .exit)) (now (samples .exit)) ⌝ }
+    ensures { λ r. ⌜ RunRefused why (now (words .entry)) (now (samples .entry))
+        (r .outcome) (r .head) (now (words .exit)) (now (samples .exit)) ⌝ }
 {
     fill(words, words.len(), 0);
     fill(samples, samples.len(), 0);
@@ -176,7 +180,9 @@ fn build_levels(
     rest: &mut [u64],
 ) -> Run
     requires { ⌜ Begun gamma count (now sizes) (stores (now words) (now samples) (now collide) (now rest)) ⌝ }
-    ensures { λ r. ⌜ Ran gamma (take count (now (rest .entry))) (stores (now (words .entry)) (now (samples .entry)) (now (collide .entry)) (now (rest .entry))) r (now (sizes .exit)) (stores (now (words .exit)) (now (samples .exit)) (now (collide .exit)) (now (rest .exit))) ⌝ }
+    ensures { λ r. ⌜ Ran gamma (take count (now (rest .entry)))
+        (stores (now (words .entry)) (now (samples .entry)) (now (collide .entry)) (now (rest .entry)))
+        r (now (sizes .exit)) (stores (now (words .exit)) (now (samples .exit)) (now (collide .exit)) (now (rest .exit))) ⌝ }
 {
     let mut at = Progress {
         level: 0,
@@ -209,7 +215,8 @@ fn build_level(
     rest: &mut [u64],
 ) -> Turn
     requires { ⌜ Ready gamma at (stores (now words) (now samples) (now collide) (now rest)) ⌝ }
-    ensures { λ r. ⌜ turned r (stores (now (words .exit)) (now (samples .exit)) (now (collide .exit)) (now (rest .exit))) ≡ levelTurn gamma at (stores (now (words .entry)) (now (samples .entry)) (now (collide .entry)) (now (rest .entry))) ⌝ }
+    ensures { λ r. ⌜ turned r (stores (now (words .exit)) (now (samples .exit)) (now (collide .exit)) (now (rest .exit)))
+        ≡ levelTurn gamma at (stores (now (words .entry)) (now (samples .entry)) (now (collide .entry)) (now (rest .entry))) ⌝ }
 {
     let size = sizes::size(gamma, at.remaining as u64);
     let taken = u64s(size) as usize;
@@ -243,7 +250,8 @@ fn place_at(
     collide: &mut [u64],
 ) -> usize
     requires { ⌜ Placeable size count at (now rest) (now words) (now collide) ⌝ }
-    ensures { λ r. ⌜ PlacedAt (position level size) size (take count (now (rest .entry))) at (now (rest .entry)) (now (words .entry)) (now (collide .entry)) r (now (rest .exit)) (now (words .exit)) (now (collide .exit)) ⌝ }
+    ensures { λ r. ⌜ PlacedAt (position level size) size (take count (now (rest .entry))) at (now (rest .entry)) (now (words .entry)) (now (collide .entry))
+        r (now (rest .exit)) (now (words .exit)) (now (collide .exit)) ⌝ }
 {
     let kept = level::place(level, size, count, rest, &mut words[at..], collide);
     fill(collide, u64s(size) as usize, 0);
