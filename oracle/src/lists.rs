@@ -1,5 +1,6 @@
 //! The lists that `replay` compares the proved functions with. Each is a function of nothing but the seed stated in it.
 
+mod set;
 mod size;
 
 use crate::boomphf::{fold, hash_with_seed, hashmod};
@@ -14,6 +15,16 @@ pub fn all() -> Vec<(&'static str, List)> {
         ("fold", folds()),
         ("position", positions()),
         ("size", size::sizes()),
+        ("new", set::new()),
+        ("ones", set::ones()),
+        ("is_empty", set::is_empty()),
+        ("len", set::len()),
+        ("contains", set::contains()),
+        ("insert", set::insert()),
+        ("remove", set::remove()),
+        ("insert_all", set::insert_all()),
+        ("eq_left", set::eq_left()),
+        ("members", set::members()),
     ]
 }
 
