@@ -1,5 +1,7 @@
 // Each kind of case: what the numbers of a line are, and whether the proved functions answer as it says.
 use crate::list::MOST;
+use crate::placing;
+use crate::ranking;
 use crate::set;
 use trial::measure::measure;
 
@@ -25,6 +27,11 @@ pub enum Kind {
     InsertAll,
     EqLeft,
     Members,
+    // see placing
+    Level,
+    // see ranking
+    Samples,
+    Rank,
 }
 
 // Whether a line of so many numbers is a case that holds.
@@ -45,6 +52,9 @@ pub(crate) fn holds(kind: Kind, count: usize, line: &[u64; MOST]) -> bool {
         Kind::InsertAll => set::insert_all(count, line),
         Kind::EqLeft => set::eq_left(count, line),
         Kind::Members => set::members(count, line),
+        Kind::Level => placing::place(count, line),
+        Kind::Samples => ranking::samples(count, line),
+        Kind::Rank => ranking::rank(count, line),
     }
 }
 

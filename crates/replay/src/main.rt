@@ -2,6 +2,8 @@
 // same. One line is written for each kind: how many cases are equal, or the first that is not.
 mod case;
 mod list;
+mod placing;
+mod ranking;
 mod set;
 mod stores;
 
@@ -45,6 +47,9 @@ fn main() {
     replay(b"insert_all", Kind::InsertAll);
     replay(b"eq_left", Kind::EqLeft);
     replay(b"members", Kind::Members);
+    replay(b"level", Kind::Level);
+    replay(b"samples", Kind::Samples);
+    replay(b"rank", Kind::Rank);
 }
 
 // Compares the list of this name, and writes its line.

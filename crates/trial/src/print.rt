@@ -43,14 +43,17 @@ pub fn said(name: &[u8], answer: Said) {
 }
 
 pub fn counted(name: &[u8], answer: Counted) {
-    text(name);
     match answer {
-        Counted::Count(n) => count(n),
-        Counted::Refused(reason) => refused(reason),
+        Counted::Count(n) => count(name, n),
+        Counted::Refused(reason) => {
+            text(name);
+            refused(reason);
+        }
     }
 }
 
-fn count(n: u64) {
+pub fn count(name: &[u8], n: u64) {
+    text(name);
     text(b": ");
     number(n);
     text(b"\n");

@@ -1,12 +1,10 @@
 //! Acts on sets, by boomphf's `BitVector`, in the domain where it and document 01 agree. A set is written as the words of its
 //! capacity. Yes is 1, no is 0, done is 0.
 
+use super::{draw, words};
 use crate::bitvector::BitVector;
 use crate::draw::Draw;
 use crate::list::List;
-
-/// The seed of a list is this and the list's number.
-const SEEDS: u64 = 0x0073_6861_776C_0000;
 
 /// Around multiples of 64.
 const CAPACITIES: [u64; 14] = [0, 1, 2, 63, 64, 65, 127, 128, 129, 191, 192, 193, 255, 256];
@@ -91,7 +89,7 @@ pub fn members() -> List {
 
 /// A set made anew, over words of a store that held anything.
 fn made(capacities: &[u64], number: u64, make: impl Fn(u64) -> BitVector) -> List {
-    let mut draw = Draw::new(SEEDS + number);
+    let mut draw = draw(number);
     let mut list = List::default();
     for capacity in capacities {
         let after = words(&make(*capacity));
@@ -103,7 +101,7 @@ fn made(capacities: &[u64], number: u64, make: impl Fn(u64) -> BitVector) -> Lis
 
 /// A list of cases made of sets of every capacity, drawn from a seed of the list's own.
 fn each_set(number: u64, mut cases: impl FnMut(&mut List, &mut Draw, BitVector)) -> List {
-    let mut draw = Draw::new(SEEDS + number);
+    let mut draw = draw(number);
     let mut list = List::default();
     for capacity in CAPACITIES {
         for _ in 0..16 {
@@ -154,8 +152,4 @@ fn nearly(draw: &mut Draw, set: &BitVector, capacity: u64) -> BitVector {
         }
     }
     other
-}
-
-fn words(set: &BitVector) -> Vec<u64> {
-    (0..set.num_words()).map(|word| set.get_word(word)).collect()
 }
