@@ -6,7 +6,7 @@ use std::{env, fs, path::Path};
 /// One edit of a copy: how many places have the first text, which all get the second.
 type Edit = (usize, &'static str, &'static str);
 
-const LIB: [Edit; 5] = [
+const LIB: [Edit; 12] = [
     // The copy is a module and no crate root: its opening comment is no inner doc comment, and hashmap.rs is left out.
     (26, "\n//!", "\n//"),
     (1, "mod bitvector;\npub mod hashmap;\n", "use super::bitvector;\n"),
@@ -19,6 +19,22 @@ const LIB: [Edit; 5] = [
     // What the oracle shows: the hash functions, and each level's bit vector with its ranks.
     (5, "#[inline]\nfn ", "#[inline]\npub fn "),
     (1, "    bitvecs: Box<[(", "    pub bitvecs: Box<[("),
+    // The steps of a build: one level, with its bits and those of collide, and the ranks.
+    (1, "\nstruct Context {", "\npub struct Context {"),
+    (
+        1,
+        "    fn new(size: u64, seed: u64)",
+        "    pub fn new(size: u64, seed: u64)",
+    ),
+    (
+        1,
+        "    a: BitVector,\n    collide: BitVector,\n}",
+        "    pub a: BitVector,\n    pub collide: BitVector,\n}",
+    ),
+    (1, "    fn find_collisions_sync<", "    pub fn find_collisions_sync<"),
+    (2, "    fn filter<", "    pub fn filter<"),
+    (1, "    fn compute_ranks(", "    pub fn compute_ranks("),
+    (1, "    fn get_rank(", "    pub fn get_rank("),
 ];
 
 const BITVECTOR: [Edit; 1] = [(15, "\n//!", "\n//")];

@@ -1,7 +1,11 @@
-//! The lists that `replay` compares the proved functions with. Each is a function of nothing but the seed stated in it.
+//! The lists that `replay` compares the proved functions with. Each is drawn by a number stated in it, and by nothing else.
 
+mod level;
+mod rank;
+mod set;
 mod size;
 
+use crate::bitvector::BitVector;
 use crate::boomphf::{fold, hash_with_seed, hashmod};
 use crate::draw::Draw;
 use crate::list::List;
@@ -14,7 +18,30 @@ pub fn all() -> Vec<(&'static str, List)> {
         ("fold", folds()),
         ("position", positions()),
         ("size", size::sizes()),
+        ("new", set::new()),
+        ("ones", set::ones()),
+        ("is_empty", set::is_empty()),
+        ("len", set::len()),
+        ("contains", set::contains()),
+        ("insert", set::insert()),
+        ("remove", set::remove()),
+        ("insert_all", set::insert_all()),
+        ("eq_left", set::eq_left()),
+        ("members", set::members()),
+        ("level", level::levels()),
+        ("samples", rank::samples()),
+        ("rank", rank::ranks()),
     ]
+}
+
+/// What a list, or what several share, is drawn from.
+fn draw(number: u64) -> Draw {
+    Draw::new(0x0073_6861_776C_0000 + number)
+}
+
+/// The words that hold a set.
+fn words(set: &BitVector) -> Vec<u64> {
+    (0..set.num_words()).map(|word| set.get_word(word)).collect()
 }
 
 const LEVELS: [u64; 5] = [0, 1, 31, 32, 99];
@@ -23,7 +50,7 @@ const SIZES: [u64; 6] = [255, 256, 511, 513, 2000, 16_777_216];
 
 /// Ids at the edges of their halves, and 300 more.
 fn ids() -> Vec<u64> {
-    let mut draw = Draw::new(0x0073_6861_776C_0001);
+    let mut draw = draw(1);
     let edges = [0, 1, (1 << 32) - 1, (1 << 32) + 1, 1 << 63, u64::MAX];
     edges.into_iter().chain((0..300).map(|_| draw.next())).collect()
 }

@@ -1,7 +1,15 @@
 // The lines of 01's "Both sides of each line" that are run: each is written with what the proved functions answer, and the file stdout has what 01 says.
 mod levels;
+mod rows;
+mod sets;
 
 fn main() {
     levels::gammas();
     levels::sizes();
+    sets::bits();
+    sets::ones();
+    sets::capacities();
+    sets::strays();
+    sets::members();
+    rows::sampled();
 }

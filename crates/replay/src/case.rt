@@ -1,5 +1,8 @@
 // Each kind of case: what the numbers of a line are, and whether the proved functions answer as it says.
 use crate::list::MOST;
+use crate::placing;
+use crate::ranking;
+use crate::set;
 use trial::measure::measure;
 
 pub enum Kind {
@@ -13,6 +16,22 @@ pub enum Kind {
     Position,
     // gamma's bits, ids, size, words
     Size,
+    // the calls of the word set: see set
+    New,
+    Ones,
+    IsEmpty,
+    Len,
+    Contains,
+    Insert,
+    Remove,
+    InsertAll,
+    EqLeft,
+    Members,
+    // see placing
+    Level,
+    // see ranking
+    Samples,
+    Rank,
 }
 
 // Whether a line of so many numbers is a case that holds.
@@ -23,6 +42,19 @@ pub(crate) fn holds(kind: Kind, count: usize, line: &[u64; MOST]) -> bool {
         Kind::Fold => count == 2 && mixer::fold(line[0]) as u64 == line[1],
         Kind::Position => count == 4 && position(line[0], line[1], line[2]) == line[3],
         Kind::Size => count == 4 && is_size(line[0], line[1], line[2], line[3]),
+        Kind::New => set::new(count, line),
+        Kind::Ones => set::ones(count, line),
+        Kind::IsEmpty => set::is_empty(count, line),
+        Kind::Len => set::len(count, line),
+        Kind::Contains => set::contains(count, line),
+        Kind::Insert => set::insert(count, line),
+        Kind::Remove => set::remove(count, line),
+        Kind::InsertAll => set::insert_all(count, line),
+        Kind::EqLeft => set::eq_left(count, line),
+        Kind::Members => set::members(count, line),
+        Kind::Level => placing::place(count, line),
+        Kind::Samples => ranking::samples(count, line),
+        Kind::Rank => ranking::rank(count, line),
     }
 }
 

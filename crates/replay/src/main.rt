@@ -2,6 +2,10 @@
 // same. One line is written for each kind: how many cases are equal, or the first that is not.
 mod case;
 mod list;
+mod placing;
+mod ranking;
+mod set;
+mod stores;
 
 use case::Kind;
 use libc::STDOUT_FILENO;
@@ -33,6 +37,19 @@ fn main() {
     replay(b"fold", Kind::Fold);
     replay(b"position", Kind::Position);
     replay(b"size", Kind::Size);
+    replay(b"new", Kind::New);
+    replay(b"ones", Kind::Ones);
+    replay(b"is_empty", Kind::IsEmpty);
+    replay(b"len", Kind::Len);
+    replay(b"contains", Kind::Contains);
+    replay(b"insert", Kind::Insert);
+    replay(b"remove", Kind::Remove);
+    replay(b"insert_all", Kind::InsertAll);
+    replay(b"eq_left", Kind::EqLeft);
+    replay(b"members", Kind::Members);
+    replay(b"level", Kind::Level);
+    replay(b"samples", Kind::Samples);
+    replay(b"rank", Kind::Rank);
 }
 
 // Compares the list of this name, and writes its line.

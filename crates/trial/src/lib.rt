@@ -1,3 +1,4 @@
 // What the programs `edges` and `replay` share.
+pub mod answer;
 pub mod measure;
 pub mod print;

@@ -1,5 +1,9 @@
 // Lines of text with numbers in them, on standard output.
+use bitvector::Counted;
+use bitvector::Made;
+use bitvector::Said;
 use libc::STDOUT_FILENO;
+use refusal::Refusal;
 
 pub fn text(words: &[u8]) {
     io::write_all(STDOUT_FILENO, words);
@@ -7,4 +11,56 @@ pub fn text(words: &[u8]) {
 
 pub fn number(n: u64) {
     io::print_decimal(STDOUT_FILENO, n);
+}
+
+// A line: what is listed, and the numbers.
+pub fn numbers(name: &[u8], list: &[u64]) {
+    text(name);
+    text(b":");
+    for i in 0..list.len() {
+        text(b" ");
+        number(list[i]);
+    }
+    text(b"\n");
+}
+
+// A line: what was asked, and the answer.
+pub fn made(name: &[u8], answer: Made) {
+    text(name);
+    match answer {
+        Made::Done => text(b": done\n"),
+        Made::Refused(reason) => refused(reason),
+    }
+}
+
+pub fn said(name: &[u8], answer: Said) {
+    text(name);
+    match answer {
+        Said::Yes => text(b": yes\n"),
+        Said::No => text(b": no\n"),
+        Said::Refused(reason) => refused(reason),
+    }
+}
+
+pub fn counted(name: &[u8], answer: Counted) {
+    match answer {
+        Counted::Count(n) => count(name, n),
+        Counted::Refused(reason) => {
+            text(name);
+            refused(reason);
+        }
+    }
+}
+
+pub fn count(name: &[u8], n: u64) {
+    text(name);
+    text(b": ");
+    number(n);
+    text(b"\n");
+}
+
+fn refused(reason: Refusal) {
+    text(b": refused ");
+    number(refusal::number(reason));
+    text(b"\n");
 }

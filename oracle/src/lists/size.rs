@@ -10,7 +10,7 @@ const ENDS: [f64; 2] = [1.0100000000000002, 16.0];
 const MOST_IDS: u64 = 1_048_576;
 
 pub fn sizes() -> List {
-    let mut draw = Draw::new(0x0073_6861_776C_0003);
+    let mut draw = super::draw(3);
     let mut list = List::default();
     for gamma in ENDS.into_iter().chain([1.5, 1.7, 2.0]) {
         for ids in [0, 1, 2, 151, 170, 171, 1000, MOST_IDS - 1, MOST_IDS] {
