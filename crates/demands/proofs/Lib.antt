@@ -1,2 +1,4 @@
 pub mod Built
 pub mod Order
+pub mod Room
+pub mod Demand3

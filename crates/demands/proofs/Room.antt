@@ -1,0 +1,125 @@
+-- A build in bounds runs the level rule, and is accepted exactly if that run is built; with room enough it is refused exactly if ids are left. Assumes nothing.
+use mathlib.Core.Path.{_≡_, refl, sym, ap, _∙_}
+use mathlib.Core.Bool.{true}
+use mathlib.Core.List.{List, []}
+use Prim.Native.Nat.{ℕ, zero, suc, _*_, _≤_, _<_}
+use native.Mathlib.Nat.{le-trans}
+use native.Mathlib.Omega.{arith}
+use lib.Dec.{lit<}
+use lib.Ieee.{Float}
+use lib.ListN.{length}
+use Rattle.bitvector.specs.declared.Made.{Made}
+use Rattle.bitvector.specs.declared.Made.the-variants.{Done, Refused}
+use Rattle.bounds.specs.Bounds.{maxLevels}
+use Rattle.demands.specs.Demands.{InBounds, RoomEnough, leftOver, Refusals}
+use Rattle.laws.specs.Bits.{wordsFor}
+use Rattle.laws.specs.Counting.{sum}
+use Rattle.laws.proofs.Cases.{Tri, lt, eq, gt, tri}
+use Rattle.laws.proofs.Counts.{empty}
+use Rattle.mphf.specs.Build.{BuildEnd, buildChecks, ended, afterChecks, buildCall}
+use Rattle.mphf.specs.Index.{Stores, ruleOf, roomOf}
+use Rattle.mphf.specs.Layout.{samplesOfSize}
+use Rattle.mphf.proofs.Builds.{checked, passed}
+use Rattle.mphf.proofs.Runs.{rule-sound}
+use Rattle.refusal.proofs.Apart.{number-pos}
+use Rattle.rule.specs.Demand.{Enough, Demand3}
+use Rattle.rule.specs.Rule.{Rule, Room, Outcome, built, noRoom, idsLeft, left, span, fits, run}
+use Rattle.rule.proofs.Demand.{demand3}
+use Rattle.rule.proofs.Levels.{left-fewer}
+use Rattle.rule.proofs.Run.{room-enough, all-enough}
+use Rattle.sizes.proofs.Sizes.{words-mono, samples-mono}
+
+-- n numbers of which none is above c
+sum-at-most : (w : ℕ → ℕ) (c n : ℕ) → ((i : ℕ) → w i ≤ c) → sum w n ≤ n * c
+sum-at-most w c zero h = omega arith
+sum-at-most w c (suc n) h = omega (arith, sum-at-most w c n h, h n)
+
+sum-fits : (w : ℕ → ℕ) (c n room : ℕ) → ((i : ℕ) → w i ≤ c) → n * c ≤ room → sum w n ≤ room
+sum-fits w c n room h r = le-trans (sum-at-most w c n h) r
+
+module _ (gamma : Float) (ids : List ℕ) (s : Stores) where
+  abbrev rule : Rule
+  rule = ruleOf gamma
+
+  abbrev room : Room
+  room = roomOf (length (s .words)) (length (s .samples))
+
+  abbrev outcome : Outcome
+  outcome = run rule room ids maxLevels
+
+  -- ---- the run
+
+  build-runs : InBounds gamma ids s → buildCall gamma ids s ≡ ended gamma ids s outcome
+  unfolding buildCall
+  build-runs b =
+      rw (← (checked gamma (length ids) (length (s .collide)) (length (s .rest)) (b .allowed .above) (b .allowed .within) (b .few-ids) (b .rest-long) (b .collide-long)))
+
+  -- an accepted build was in bounds, and its run was built
+  pub record Accepted : Type 0 where
+    pub bounds : InBounds gamma ids s
+    pub levels : ℕ
+    pub ran : run (ruleOf gamma) (roomOf (length (s .words)) (length (s .samples))) ids maxLevels ≡ built levels
+    pub call-is : buildCall gamma ids s ≡ ended gamma ids s (built levels)
+
+  in-bounds : buildCall gamma ids s .refusal ≡ 0 → InBounds gamma ids s
+  unfolding buildCall
+  in-bounds = go (buildChecks gamma (length ids) (length (s .collide)) (length (s .rest))) refl
+    where
+      go : (m : Made) → buildChecks gamma (length ids) (length (s .collide)) (length (s .rest)) ≡ m → afterChecks m gamma ids s .refusal ≡ 0 → InBounds gamma ids s
+      go (Refused r) c e = absurd (omega (arith, number-pos r))
+      go Done c e =
+          let p = passed gamma (length ids) (length (s .collide)) (length (s .rest)) c in
+          record { allowed = p .allowed; few-ids = p .few-ids; rest-long = p .in-rest; collide-long = p .in-collide }
+
+  pub accepted : buildCall gamma ids s .refusal ≡ 0 → Accepted
+  accepted e = let b = in-bounds e in go outcome refl b (rw (build-runs b) at e)
+    where
+      go : (o : Outcome) → outcome ≡ o → InBounds gamma ids s → ended gamma ids s outcome .refusal ≡ 0 → Accepted
+      go (built n) q b z = record { bounds = b; levels = n; ran = q; call-is = build-runs b ∙ ap (ended gamma ids s) q }
+      go (noRoom i) q b z = let w : ended gamma ids s (noRoom i) .refusal ≡ 0 = rw q at z in absurd (omega arith)
+      go (idsLeft n) q b z = let w : ended gamma ids s (idsLeft n) .refusal ≡ 0 = rw q at z in absurd (omega arith)
+
+  -- ---- room enough: no level is larger than level 0
+
+  module _ (r : RoomEnough gamma ids s) where
+    enough : Enough rule room ids maxLevels
+    unfolding left
+    enough =
+        let fewer : (i : ℕ) → length (left rule ids i) ≤ length ids = λ i. left-fewer rule ids 0 i (omega arith) in
+        all-enough rule room ids maxLevels
+        (room-enough rule room ids maxLevels
+        (sum-fits (λ i. wordsFor (span rule ids i)) _ maxLevels _ (λ i. words-mono gamma _ _ (fewer i)) (r .words))
+        (sum-fits (λ i. samplesOfSize (span rule ids i)) _ maxLevels _ (λ i. samples-mono gamma _ _ (fewer i)) (r .samples)))
+
+    demand : Demand3 rule room ids maxLevels
+    demand = demand3 rule room ids (rule-sound gamma) maxLevels (lit< tt)
+
+    module _ (b : InBounds gamma ids s) where
+      some-left : 0 < leftOver gamma ids → buildCall gamma ids s ≡ ended gamma ids s (idsLeft (leftOver gamma ids))
+      some-left h = build-runs b ∙ ap (ended gamma ids s) (demand .refused enough (leftOver gamma ids) .1 (h, refl))
+
+      no-left : leftOver gamma ids ≡ 0 → buildCall gamma ids s .refusal ≡ 0
+      no-left e =
+          let t = demand .accepted enough .1 (empty (left rule ids maxLevels) e) in
+          ap (λ (x : BuildEnd). x .refusal) (build-runs b ∙ ap (ended gamma ids s) (t .1))
+
+      -- Demand 3: with gamma and id count in bounds and room enough, a build is refused exactly when the level rule leaves ids after level 99.
+      pub refusals : Refusals gamma ids s
+      refusals = record {
+        exactly = (λ h. go h (tri (leftOver gamma ids) 0), λ h. omega (arith, is-6 h));
+        as-6 = some-left;
+        never-5 = λ e. never e (tri (leftOver gamma ids) 0);
+      }
+        where
+          is-6 : 0 < leftOver gamma ids → buildCall gamma ids s .refusal ≡ 6
+          is-6 h = ap (λ (x : BuildEnd). x .refusal) (some-left h)
+
+          go : 0 < buildCall gamma ids s .refusal → Tri (leftOver gamma ids) 0 → 0 < leftOver gamma ids
+          go h (lt l) = absurd (omega arith)
+          go h (eq e) = absurd (omega (arith, no-left e))
+          go h (gt l) = l
+
+          never : buildCall gamma ids s .refusal ≡ 5 → Tri (leftOver gamma ids) 0 → ⊥
+          never e (lt l) = omega arith
+          never e (eq z) = omega (arith, no-left z)
+          never e (gt l) = omega (arith, is-6 l)
