@@ -1,7 +1,7 @@
 -- The index that an accepted build leaves, read back: its head fits, each level's part of the stores is that level's words and samples, and a lookup answers
 -- as the level rule does. Assumes nothing.
 use mathlib.Core.Path.{_≡_, refl, sym, ap, ap₂, _∙_}
-use mathlib.Core.Bool.{Bool, true, false}
+use mathlib.Core.Bool.{Bool, true}
 use mathlib.Core.List.{List, [], _∷_, _++_, append-assoc}
 use mathlib.Core.Option.{Option, none, some}
 use Prim.Native.Nat.{ℕ, zero, suc, _+_, _*_, _/_, _≤_, _<_}
@@ -20,12 +20,9 @@ use Rattle.laws.proofs.Cases.{Tri, lt, eq, gt, tri}
 use Rattle.laws.proofs.Packing.{packed-has}
 use Rattle.laws.proofs.Sums.{sum-same, sum-ones}
 use Rattle.mixer.specs.Position.{position}
-use Rattle.mixer.proofs.Positions.{position-lt}
-use Rattle.mphf.specs.Fit.{Fit}
-use Rattle.mphf.specs.Index.{zeros, filled, ruleOf, roomOf, wordsAt, samplesAt, indexWords, indexSamples, indexSizes, indexHead}
-use Rattle.mphf.specs.Layout.{samplesOfSize, sizeAt, wordStart, sampleStart, levelWords, levelSamples, fit}
-use Rattle.mphf.specs.Lookup.{Answer, found, nothing, rowAnswer, levelAnswer, findIn, lookupCall}
-use Rattle.mphf.specs.declared.fitting.Head.{Head}
+use Rattle.mphf.specs.Index.{filled, ruleOf, roomOf, wordsAt, samplesAt, indexWords, indexSamples, indexSizes, indexHead}
+use Rattle.mphf.specs.Layout.{samplesOfSize, sizeAt, levelWords, levelSamples, fit}
+use Rattle.mphf.specs.Lookup.{Answer, found, nothing, levelAnswer, findIn, lookupCall}
 use Rattle.mphf.proofs.Finds.{lookup-fit, row-good}
 use Rattle.mphf.proofs.Fits.{fit-is}
 use Rattle.mphf.proofs.Indexes.{length-filled, length-words-at, length-samples-at, length-words, length-samples-to, length-sizes}
@@ -34,7 +31,7 @@ use Rattle.ranks.specs.Ranks.{setBits, samplesOf, onesFrom}
 use Rattle.ranks.proofs.ByRule.{next-base}
 use Rattle.ranks.proofs.Samples.{rank-by-sample}
 use Rattle.rule.specs.Demand.{Ends, none-left, out-of-room, at-limit}
-use Rattle.rule.specs.Rule.{Rule, Room, Place, left, span, bit, base, rowAt, first, place, lookup, find, fits, run, built}
+use Rattle.rule.specs.Rule.{Rule, Room, Place, left, span, bit, base, rowAt, first, place, find, run, built}
 use Rattle.rule.proofs.Level.{unset-past}
 use Rattle.rule.proofs.Levels.{left-fewer, all-accounted, spot-lt}
 use Rattle.rule.proofs.Reader.{SameLevels, base-agrees, first-has, lookup-agrees, lookup-lt}

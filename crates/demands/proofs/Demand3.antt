@@ -4,35 +4,36 @@ use mathlib.Core.Logic.{_⊎_, inl, inr}
 use mathlib.Core.Bool.{Bool, true, false}
 use mathlib.Core.List.{List, [], _∷_}
 use mathlib.Core.Option.{Option, none, some}
-use Prim.Native.Nat.{ℕ, suc, _+_, _≤_, _<_}
+use Prim.Native.Nat.{ℕ, _≤_, _<_}
 use native.Mathlib.Nat.{add-zero}
 use native.Mathlib.Decide.{ℕ-discrete}
 use native.Mathlib.Omega.{arith}
-use borrow.Author.Tests.{eqb-true, eq-eqb, ne-eqb, le-leb}
+use borrow.Author.Tests.{eq-eqb, ne-eqb, le-leb}
 use lib.Dec.{eqb, lit<}
 use lib.Ieee.{Float}
 use lib.ListN.{length, getD}
 use lib.Seq.{ext-getD}
+use Rattle.bitvector.specs.declared.Made.the-variants as M
 use Rattle.bounds.specs.Bounds.{maxIds}
-use Rattle.demands.specs.Demands.{Lookups, listedAs, Listed, Indexed, FromWords}
+use Rattle.demands.specs.Demands.{Lookups, listedAs, Listed, Indexed, Demand3, FromWords}
 use Rattle.demands.proofs.Built.{Done, run-done, answered, index-fits, lookup-is, from-words}
-use Rattle.demands.proofs.Order.{rows-any-order}
-use Rattle.demands.proofs.Room.{Accepted, accepted}
+use Rattle.demands.proofs.Order.{rows-any-order, build-any-order}
+use Rattle.demands.proofs.Room.{accepted, refusals}
 use Rattle.laws.specs.Bits.{wordsFor}
 use Rattle.laws.specs.Counting.{one, tally, count, sift, blocks, Same}
 use Rattle.laws.proofs.Blocks.{blocks-same, blocks-at, length-blocks}
 use Rattle.laws.proofs.Cases.{Tri, lt, eq, gt, tri, one-eq}
-use Rattle.laws.proofs.Counts.{same-length, length-sift, count-sift, count-at, pick, only}
+use Rattle.laws.proofs.Counts.{same-length, length-sift, count-sift, count-at, only}
 use Rattle.laws.proofs.Sums.{sum-ones}
-use Rattle.mphf.specs.Build.{BuildEnd, buildCall}
+use Rattle.mphf.specs.Build.{BuildEnd, builtOf, buildCall}
 use Rattle.mphf.specs.Index.{Stores, filled, ruleOf, roomOf, indexWords, indexSamples, indexHead}
-use Rattle.mphf.specs.Lookup.{Answer, found, nothing, lookupCall}
+use Rattle.mphf.specs.Lookup.{found, nothing, lookupCall}
 use Rattle.mphf.specs.Rows.{rowIn, isNone, isRow, apart, listed, rowsBy, rowsCall}
 use Rattle.mphf.specs.declared.fitting.Head.{Head}
 use Rattle.mphf.proofs.Lists.{apart-is}
 use Rattle.mphf.proofs.Runs.{rule-sound}
 use Rattle.rule.specs.Demand.{Perfect}
-use Rattle.rule.specs.Rule.{Rule, Place, rowOf, find, row, rowList}
+use Rattle.rule.specs.Rule.{Rule, Room, Place, rowOf, find, row, rowList}
 use Rattle.rule.proofs.Reader.{row-found}
 use Rattle.rule.proofs.Rows.{perfect}
 use Rattle.sizes.specs.Gamma.{Allowed}
@@ -112,8 +113,9 @@ module _ (gamma : Float) (ids : List ℕ) (wordRoom sampleRoom n : ℕ) (done : 
   abbrev rule : Rule
   rule = ruleOf gamma
 
-  abbrev Head' : Head
-  Head' = indexHead rule ids n
+  -- the head and the stores, and the row list
+  abbrev Top : Head
+  Top = indexHead rule ids n
 
   abbrev Words : List ℕ
   Words = filled (indexWords rule ids n) wordRoom
@@ -121,24 +123,24 @@ module _ (gamma : Float) (ids : List ℕ) (wordRoom sampleRoom n : ℕ) (done : 
   abbrev Samples : List ℕ
   Samples = filled (indexSamples rule ids n) sampleRoom
 
-  abbrev List' : List ℕ
-  List' = rowList rule ids n
+  abbrev Rows : List ℕ
+  Rows = rowList rule ids n
 
   hash : Perfect rule ids n
   hash = perfect rule ids (rule-sound gamma) n (done .none-left)
 
-  look : (x : ℕ) → lookupCall Head' Words Samples x ≡ answered (find rule ids n x)
+  look : (x : ℕ) → lookupCall Top Words Samples x ≡ answered (find rule ids n x)
   look x = lookup-is gamma ids wordRoom sampleRoom n done allowed few x
 
   -- a place that is found is the rule's, and its row too
-  place-is : (x : ℕ) (u : Place) → lookupCall Head' Words Samples x ≡ found u → find rule ids n x ≡ some u
+  place-is : (x : ℕ) (u : Place) → lookupCall Top Words Samples x ≡ found u → find rule ids n x ≡ some u
   place-is x u e = answered-place (find rule ids n x) u (sym (look x) ∙ e)
 
-  row-is : (x : ℕ) (u : Place) → lookupCall Head' Words Samples x ≡ found u → row rule ids n x ≡ some (u .row)
+  row-is : (x : ℕ) (u : Place) → lookupCall Top Words Samples x ≡ found u → row rule ids n x ≡ some (u .row)
   row-is x u e = ap rowOf (place-is x u e)
 
   -- what has a row is found there
-  found-at : (x k : ℕ) → row rule ids n x ≡ some k → (u : Place) × (lookupCall Head' Words Samples x ≡ found u) × (u .row ≡ k)
+  found-at : (x k : ℕ) → row rule ids n x ≡ some k → (u : Place) × (lookupCall Top Words Samples x ≡ found u) × (u .row ≡ k)
   found-at x k e =
       let f = row-found (find rule ids n x) k e in
       (f .0, look x ∙ ap answered (f .1), f .2)
@@ -146,9 +148,8 @@ module _ (gamma : Float) (ids : List ℕ) (wordRoom sampleRoom n : ℕ) (done : 
   once : (x : ℕ) → 0 < count x ids → count x ids ≡ 1
   once x h = omega (arith, hash .listed x h, hash .list-same .counts x)
 
-  lookups : Lookups ids Head' Words Samples
+  lookups : Lookups ids (lookupCall Top Words Samples)
   lookups = record {
-    counted = refl;
     distinct = λ x. at-most x (tri 0 (count x ids));
     id-row = λ x h.
         let r = hash .has-row x h in
@@ -168,51 +169,60 @@ module _ (gamma : Float) (ids : List ℕ) (wordRoom sampleRoom n : ℕ) (done : 
       at-most x (gt h) = absurd (omega arith)
 
       any : (x : ℕ) (o : Option Place) → find rule ids n x ≡ o
-          → (lookupCall Head' Words Samples x ≡ nothing) ⊎ ((u : Place) × (lookupCall Head' Words Samples x ≡ found u) × (u .row < length ids))
+          → (lookupCall Top Words Samples x ≡ nothing) ⊎ ((u : Place) × (lookupCall Top Words Samples x ≡ found u) × (u .row < length ids))
       any x none e = inl (look x ∙ ap answered e)
       any x (some u) e = inr (u, look x ∙ ap answered e, hash .row-lt x (u .row) (ap rowOf e))
 
   -- ---- the row list
 
-  row-rule : (x : ℕ) → rowIn (lookupCall Head' Words Samples x) ≡ row rule ids n x
+  row-rule : (x : ℕ) → rowIn (lookupCall Top Words Samples x) ≡ row rule ids n x
   row-rule x = ap rowIn (look x) ∙ answered-row (find rule ids n x)
 
   call : (rows marks : List ℕ) → length ids ≤ length rows → wordsFor (length ids) ≤ length marks
-      → rowsCall Head' Words Samples ids rows marks ≡ listedAs List' (length ids) rows marks
+      → rowsCall Top Words Samples ids rows marks ≡ listedAs Rows (length ids) rows marks
   unfolding rowsCall
   call rows marks p q =
       rw (index-fits gamma ids wordRoom sampleRoom n done allowed few, le-leb (length ids) (length rows) p, le-leb (wordsFor (length ids)) (length marks) q)
       (ap (λ (f : ℕ → Option ℕ). rowsBy f (length ids) ids rows marks) (fun-ext row-rule)
-      ∙ rows-are (row rule ids n) ids List' once (hash .has-row) (hash .one-row) (hash .list-same) (hash .list-row) rows marks)
+      ∙ rows-are (row rule ids n) ids Rows once (hash .has-row) (hash .one-row) (hash .list-same) (hash .list-row) rows marks)
 
-  listing : Listed ids Head' Words Samples List'
+  listing : Listed ids (lookupCall Top Words Samples) (rowsCall Top Words Samples) Rows
   listing = record {
-    succeeds = λ given rows marks s p q. rows-any-order Head' Words Samples rows marks s ∙ call rows marks p q;
+    succeeds = λ given rows marks s p q. rows-any-order Top Words Samples rows marks s ∙ call rows marks p q;
     every-id = hash .listed;
     only-ids = hash .list-same;
     at-row = λ x u h e. hash .list-at x (u .row) h (row-is x u e);
-    in-order = λ k l u v h m e f. hash .rising k l u v h m (place-is (getD List' k 0) u e) (place-is (getD List' l 0) v f);
+    in-order = λ k l u v h m e f. hash .rising k l u v h m (place-is (getD Rows k 0) u e) (place-is (getD Rows l 0) v f);
   }
 
 -- ---- of an accepted build
 
-module _ (gamma : Float) (ids : List ℕ) (s : Stores) (done : buildCall gamma ids s .refusal ≡ 0) where
-  -- Demand 3: once accepted, each row below n belongs to exactly one of the n ids, the row list holds every id exactly once, by level and then position, and a
-  -- foreign id gets none or a row below n.
-  pub indexed : Indexed ids (buildCall gamma ids s)
-  indexed =
+module _ (gamma : Float) (ids : List ℕ) (s : Stores) where
+  abbrev room : Room
+  room = roomOf (length (s .words)) (length (s .samples))
+
+  indexed : buildCall gamma ids s .refusal ≡ 0 → Indexed ids (buildCall gamma ids s)
+  indexed done =
       let a = accepted gamma ids s done in
-      let d = run-done (ruleOf gamma) (roomOf (length (s .words)) (length (s .samples))) ids (a .levels) (a .ran) in
+      let d = run-done (ruleOf gamma) room ids (a .levels) (a .ran) in
       subst (Indexed ids) (sym (a .call-is)) (record {
+        counted = refl;
         lookups = lookups gamma ids (length (s .words)) (length (s .samples)) (a .levels) d (a .bounds .allowed) (a .bounds .few-ids);
         rowList = rowList (ruleOf gamma) ids (a .levels);
         listed = listing gamma ids (length (s .words)) (length (s .samples)) (a .levels) d (a .bounds .allowed) (a .bounds .few-ids);
       })
 
-  -- the samples of an accepted build are a function of the head and the words
-  pub samples-from-words : FromWords (buildCall gamma ids s .head) (buildCall gamma ids s .stores .words) (buildCall gamma ids s .stores .samples)
-  samples-from-words =
+  pub demand3 : Demand3 gamma ids s
+  demand3 = record { refused = λ b r. refusals gamma ids s r b; accepted = indexed; any-order = λ others e. build-any-order gamma e s }
+
+  -- the same of what `build` returns where it is not refused, by its promise
+  pub returned : (head : Head) (after : Stores) → builtOf M.Done head after ≡ buildCall gamma ids s → Indexed ids (builtOf M.Done head after)
+  returned head after e = subst (Indexed ids) (sym e) (indexed (ap (λ (x : BuildEnd). x .refusal) (sym e)))
+
+  -- The samples of an accepted build are those that its head and its words give.
+  pub samples-from-words : buildCall gamma ids s .refusal ≡ 0
+      → FromWords (buildCall gamma ids s .head) (buildCall gamma ids s .stores .words) (buildCall gamma ids s .stores .samples)
+  samples-from-words done =
       let a = accepted gamma ids s done in
       subst (λ (x : BuildEnd). FromWords (x .head) (x .stores .words) (x .stores .samples)) (sym (a .call-is))
-      (from-words gamma ids (length (s .words)) (length (s .samples)) (a .levels)
-      (run-done (ruleOf gamma) (roomOf (length (s .words)) (length (s .samples))) ids (a .levels) (a .ran)))
+      (from-words gamma ids (length (s .words)) (length (s .samples)) (a .levels) (run-done (ruleOf gamma) room ids (a .levels) (a .ran)))

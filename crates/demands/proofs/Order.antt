@@ -1,6 +1,6 @@
 -- The order of the ids does not matter, to a build nor to a row list. Assumes nothing.
-use mathlib.Core.Path.{_≡_, refl, sym, ap, ap₂, _∙_, fun-ext, subst}
-use mathlib.Core.Logic.{_⊎_, inl, inr}
+use mathlib.Core.Path.{_≡_, refl, sym, ap, ap₂, _∙_, fun-ext}
+use mathlib.Core.Logic.{inl, inr}
 use mathlib.Core.Bool.{Bool, true, false, not, _&&_}
 use mathlib.Core.List.{List, [], _∷_, _++_, List·Permᴰ}
 use mathlib.Core.Option.{Option}
@@ -14,13 +14,12 @@ use Rattle.bitvector.specs.declared.Made.the-variants.{Done, Refused}
 use Rattle.bounds.specs.Bounds.{maxIds, maxLevels}
 use Rattle.demands.specs.Demands.{SameRoom, SameEnd}
 use Rattle.laws.specs.Bits.{wordsFor, packed}
-use Rattle.laws.specs.Counting.{one, rank, sift, blocks, Same}
+use Rattle.laws.specs.Counting.{one, rank, blocks, Same}
 use Rattle.laws.proofs.Blocks.{blocks-same}
 use Rattle.laws.proofs.Cases.{Tri, lt, eq, gt, tri}
 use Rattle.laws.proofs.Counts.{same-total, same-length, same-sift, same-one, length-sift, empty, perm-same}
 use Rattle.mphf.specs.Build.{BuildEnd, check, buildChecks, ended, afterChecks, buildCall}
 use Rattle.mphf.specs.Index.{Stores, ruleOf, roomOf, indexWords, indexSamples, indexSizes}
-use Rattle.mphf.specs.Layout.{fit}
 use Rattle.mphf.specs.Lookup.{lookupCall}
 use Rattle.mphf.specs.Rows as R
 use Rattle.mphf.specs.declared.fitting.Head.{Head}

@@ -1,7 +1,6 @@
 -- A build in bounds runs the level rule, and is accepted exactly if that run is built; with room enough it is refused exactly if ids are left. Assumes nothing.
-use mathlib.Core.Path.{_≡_, refl, sym, ap, _∙_}
-use mathlib.Core.Bool.{true}
-use mathlib.Core.List.{List, []}
+use mathlib.Core.Path.{_≡_, refl, ap, _∙_}
+use mathlib.Core.List.{List}
 use Prim.Native.Nat.{ℕ, zero, suc, _*_, _≤_, _<_}
 use native.Mathlib.Nat.{le-trans}
 use native.Mathlib.Omega.{arith}
@@ -23,7 +22,7 @@ use Rattle.mphf.proofs.Builds.{checked, passed}
 use Rattle.mphf.proofs.Runs.{rule-sound}
 use Rattle.refusal.proofs.Apart.{number-pos}
 use Rattle.rule.specs.Demand.{Enough, Demand3}
-use Rattle.rule.specs.Rule.{Rule, Room, Outcome, built, noRoom, idsLeft, left, span, fits, run}
+use Rattle.rule.specs.Rule.{Rule, Room, Outcome, built, noRoom, idsLeft, left, span, run}
 use Rattle.rule.proofs.Demand.{demand3}
 use Rattle.rule.proofs.Levels.{left-fewer}
 use Rattle.rule.proofs.Run.{room-enough, all-enough}

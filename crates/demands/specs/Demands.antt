@@ -3,7 +3,7 @@
 use mathlib.Core.Path.{_≡_}
 use mathlib.Core.Logic.{_↔_, _⊎_}
 use mathlib.Core.List.{List, _++_}
-use Prim.Native.Nat.{ℕ, _+_, _*_, _≤_, _<_}
+use Prim.Native.Nat.{ℕ, _*_, _≤_, _<_}
 use lib.Ieee.{Float}
 use lib.ListN.{length, getD, drop}
 use Rattle.bounds.specs.Bounds.{maxIds, maxLevels}
@@ -12,7 +12,7 @@ use Rattle.laws.specs.Bits.{wordsFor}
 use Rattle.mphf.specs.Build.{BuildEnd, refusedRun, buildCall}
 use Rattle.mphf.specs.Index.{Stores, filled, ruleOf}
 use Rattle.mphf.specs.Layout.{samplesOfSize, sizeAt, levelWords, levelSamples}
-use Rattle.mphf.specs.Lookup.{found, nothing, lookupCall}
+use Rattle.mphf.specs.Lookup.{Answer, found, nothing, lookupCall}
 use Rattle.mphf.specs.Rows.{Listing, clearMarks, rowsCall}
 use Rattle.mphf.specs.declared.fitting.Head.{Head}
 use Rattle.ranks.specs.Ranks.{setBits, samplesOf}
@@ -45,7 +45,7 @@ pub record RoomEnough (gamma : Float) (ids : List ℕ) (s : Stores) : Type 0 whe
 abbrev pub leftOver : Float → List ℕ → ℕ
 leftOver gamma ids = length (left (ruleOf gamma) ids maxLevels)
 
--- Demand 3, its first sentence, for a build in bounds and with room enough.
+-- How a build in bounds and with room enough is refused.
 pub record Refusals (gamma : Float) (ids : List ℕ) (s : Stores) : Type 0 where
   -- it is refused exactly if the level rule leaves ids after level 99,
   pub exactly : (0 < buildCall gamma ids s .refusal) ↔ (0 < leftOver gamma ids)
@@ -56,46 +56,55 @@ pub record Refusals (gamma : Float) (ids : List ℕ) (s : Stores) : Type 0 where
 
 -- ---- what an accepted build leaves
 
--- Lookups in an index of the ids: demand 3, its second sentence but for the row list.
-pub record Lookups (ids : List ℕ) (head : Head) (words samples : List ℕ) : Type 0 where
-  -- the head counts the ids, which are pairwise distinct
-  pub counted : head .count ≡ length ids
+-- The answers of `lookup` in an index of n ids.
+pub record Lookups (ids : List ℕ) (lookup : ℕ → Answer) : Type 0 where
+  -- no id was given twice
   pub distinct : (x : ℕ) → count x ids ≤ 1
   -- each id has a row below n
-  pub id-row : (x : ℕ) → 0 < count x ids → (u : Place) × (lookupCall head words samples x ≡ found u) × (u .row < length ids)
-  -- each row below n is that of an id, and of no other id
-  pub row-id : (k : ℕ) → k < length ids → (x : ℕ) × (0 < count x ids) × (u : Place) × (lookupCall head words samples x ≡ found u) × (u .row ≡ k)
-  pub one-id : (x y : ℕ) (u v : Place) → 0 < count x ids → 0 < count y ids → lookupCall head words samples x ≡ found u
-      → lookupCall head words samples y ≡ found v → u .row ≡ v .row → x ≡ y
-  -- any number, a foreign id too, gets none or a row below n: never refusal 7 or 8
-  pub any-number : (x : ℕ)
-      → (lookupCall head words samples x ≡ nothing) ⊎ ((u : Place) × (lookupCall head words samples x ≡ found u) × (u .row < length ids))
+  pub id-row : (x : ℕ) → 0 < count x ids → (u : Place) × (lookup x ≡ found u) × (u .row < length ids)
+  -- each row below n is the row of an id, and of no other id
+  pub row-id : (k : ℕ) → k < length ids → (x : ℕ) × (0 < count x ids) × (u : Place) × (lookup x ≡ found u) × (u .row ≡ k)
+  pub one-id : (x y : ℕ) (u v : Place) → 0 < count x ids → 0 < count y ids → lookup x ≡ found u → lookup y ≡ found v → u .row ≡ v .row → x ≡ y
+  -- any number, a foreign id too, gets none or a row below n: no lookup is refused
+  pub any-number : (x : ℕ) → (lookup x ≡ nothing) ⊎ ((u : Place) × (lookup x ≡ found u) × (u .row < length ids))
 
--- what a row list leaves that is not refused: the list at the front of the row store, the rest of it as it was, and the needed marks 0
+-- what a row list that is not refused leaves: the list at the front of the row store, the rest of it as it was, and the needed marks 0
 abbrev pub listedAs : List ℕ → ℕ → List ℕ → List ℕ → Listing
 listedAs list n rows marks = record { refusal = 0; value = 0; rows = list ++ drop n rows; marks = clearMarks n marks }
 
--- The row list of an index of the ids.
-pub record Listed (ids : List ℕ) (head : Head) (words samples list : List ℕ) : Type 0 where
-  -- `rows` succeeds with this list, in whatever order the ids are given, where the row and mark stores are long enough
+-- The row list of an index of n ids, as `rows` leaves it and `lookup` reads it.
+pub record Listed (ids : List ℕ) (lookup : ℕ → Answer) (rowsOf : (given rows marks : List ℕ) → Listing) (list : List ℕ) : Type 0 where
+  -- `rows` succeeds with this list where the row and mark stores are long enough, in whatever order the ids are given
   pub succeeds : (given rows marks : List ℕ) → Same given ids → length ids ≤ length rows → wordsFor (length ids) ≤ length marks
-      → rowsCall head words samples given rows marks ≡ listedAs list (length ids) rows marks
+      → rowsOf given rows marks ≡ listedAs list (length ids) rows marks
   -- it holds every id exactly once, and nothing else
   pub every-id : (x : ℕ) → 0 < count x ids → count x list ≡ 1
   pub only-ids : Same list ids
-  -- each id at its row
-  pub at-row : (x : ℕ) (u : Place) → 0 < count x ids → lookupCall head words samples x ≡ found u → getD list (u .row) 0 ≡ x
+  -- each id stands at its row,
+  pub at-row : (x : ℕ) (u : Place) → 0 < count x ids → lookup x ≡ found u → getD list (u .row) 0 ≡ x
   -- by level and then position
-  pub in-order : (k l : ℕ) (u v : Place) → k < l → l < length ids → lookupCall head words samples (getD list k 0) ≡ found u
-      → lookupCall head words samples (getD list l 0) ≡ found v → Before u v
+  pub in-order : (k l : ℕ) (u v : Place) → k < l → l < length ids → lookup (getD list k 0) ≡ found u → lookup (getD list l 0) ≡ found v → Before u v
 
--- Demand 3, its second sentence, of the index that a build left.
+-- An index of the ids: the head and the stores that a build left.
 pub record Indexed (ids : List ℕ) (end : BuildEnd) : Type 0 where
-  pub lookups : Lookups ids (end .head) (end .stores .words) (end .stores .samples)
+  pub counted : end .head .count ≡ length ids
+  pub lookups : Lookups ids (lookupCall (end .head) (end .stores .words) (end .stores .samples))
   pub rowList : List ℕ
-  pub listed : Listed ids (end .head) (end .stores .words) (end .stores .samples) rowList
+  pub listed : Listed ids (lookupCall (end .head) (end .stores .words) (end .stores .samples))
+      (rowsCall (end .head) (end .stores .words) (end .stores .samples)) rowList
 
--- ---- the order of the ids does not matter
+-- ---- demand 3
+
+pub record Demand3 (gamma : Float) (ids : List ℕ) (s : Stores) : Type 0 where
+  -- With gamma and id count in bounds and room enough, a build is refused exactly when the level rule leaves ids after level 99.
+  pub refused : InBounds gamma ids s → RoomEnough gamma ids s → Refusals gamma ids s
+  -- Once accepted, each row below n belongs to exactly one of the n ids, the row list holds every id exactly once, by level and then position, and a foreign
+  -- id gets none or a row below n.
+  pub accepted : buildCall gamma ids s .refusal ≡ 0 → Indexed ids (buildCall gamma ids s)
+  -- The same ids in any order, with the same gamma and stores, give the same index or the same refusal.
+  pub any-order : (others : List ℕ) → Same others ids → buildCall gamma others s ≡ buildCall gamma ids s
+
+-- ---- the order of the ids does not matter, nor what the stores held
 
 -- stores of the same lengths
 pub record SameRoom (s t : Stores) : Type 0 where

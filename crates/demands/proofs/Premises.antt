@@ -1,0 +1,107 @@
+-- What the theorems of this crate ask for can be had, and both sides of what they tell apart are there: gamma 2.0, two ids, and the stores of 01's examples.
+-- Assumes nothing.
+use mathlib.Core.Path.{_≡_, refl, ap, _∙_}
+use mathlib.Core.List.{List, [], _∷_, List·Permᴰ, List·Permᴰ·swap}
+use Prim.Native.Nat.{ℕ, _≤_, _<_}
+use native.Mathlib.Omega.{arith}
+use lib.Dec.{lit≤}
+use lib.Ieee.{Float, binary64, ofBits, lt}
+use lib.ListN.{length, replicate}
+use Rattle.bounds.specs.Bounds.{maxLevels}
+use Rattle.demands.specs.Demands.{InBounds, RoomEnough, leftOver, Indexed, SameRoom, SameEnd, FromWords}
+use Rattle.demands.proofs.Demand3.{demand3, samples-from-words}
+use Rattle.demands.proofs.Order.{build-permuted}
+use Rattle.laws.specs.Bits.{has, bitAt, packed}
+use Rattle.laws.proofs.Counts.{count-le-length}
+use Rattle.mixer.specs.Mixer.{mixed}
+use Rattle.mixer.specs.Position.{position}
+use Rattle.mphf.specs.Build.{BuildEnd, refusedRun, buildChecks, buildCall}
+use Rattle.mphf.specs.Index.{Stores, stores, zeros, ruleOf, indexWords, indexSamples, indexSizes}
+use Rattle.mphf.specs.Layout.{fit}
+use Rattle.mphf.specs.Lookup.{found, nothing, rowAnswer, findIn, lookupCall}
+use Rattle.ranks.specs.Ranks.{firstSamples, onesFrom}
+use Rattle.rule.specs.Rule.{left, runFrom, first}
+use Rattle.rule.proofs.Levels.{left-fewer, twice}
+use Rattle.sizes.specs.Sizes.{sizeFor, wholeOf, rounded}
+
+abbrev gamma : Float
+gamma = ofBits binary64 0x4000_0000_0000_0000
+
+-- room for a hundred levels of the least size, and work stores for two ids
+abbrev room : Stores
+room = stores (zeros 400) (zeros 100) (zeros 4) (zeros 2)
+
+-- two ids, and one id twice
+abbrev pair : List ℕ
+pair = 5 ∷ 7 ∷ []
+
+abbrev double : List ℕ
+double = 7 ∷ 7 ∷ []
+
+-- ---- in bounds and with room enough, both are
+
+pair-bounds : InBounds gamma pair room
+unfolding lt ofBits sizeFor wholeOf rounded
+pair-bounds = record { allowed = record { above = refl; within = refl }; few-ids = lit≤ tt; rest-long = lit≤ tt; collide-long = lit≤ tt }
+
+pair-room : RoomEnough gamma pair room
+unfolding ofBits sizeFor wholeOf rounded
+pair-room = record { words = lit≤ tt; samples = lit≤ tt }
+
+double-bounds : InBounds gamma double room
+unfolding lt ofBits sizeFor wholeOf rounded
+double-bounds = record { allowed = record { above = refl; within = refl }; few-ids = lit≤ tt; rest-long = lit≤ tt; collide-long = lit≤ tt }
+
+double-room : RoomEnough gamma double room
+unfolding ofBits sizeFor wholeOf rounded
+double-room = record { words = lit≤ tt; samples = lit≤ tt }
+
+-- ---- two ids are accepted
+
+accepted : buildCall gamma pair room .refusal ≡ 0
+unfolding lt ofBits sizeFor wholeOf rounded buildCall buildChecks runFrom left position mixed
+accepted = refl
+
+-- ---- a foreign id gets none, or a row
+
+abbrev end : BuildEnd
+end = buildCall gamma pair room
+
+foreign-none : lookupCall (end .head) (end .stores .words) (end .stores .samples) 0 ≡ nothing
+unfolding lt ofBits sizeFor wholeOf rounded buildCall buildChecks runFrom left position mixed lookupCall fit findIn first has bitAt packed indexWords indexSizes indexSamples firstSamples
+foreign-none = refl
+
+foreign-row : lookupCall (end .head) (end .stores .words) (end .stores .samples) 8 ≡ found (record { row = 0; level = 0; position = 16 })
+unfolding lt ofBits sizeFor wholeOf rounded buildCall buildChecks runFrom left position mixed lookupCall fit findIn first has bitAt packed indexWords indexSizes indexSamples firstSamples rowAnswer onesFrom
+foreign-row = refl
+
+-- ---- one id twice is refused: with 6 in this room, giving 2, and with 5 where there is a word less, giving level 99
+
+both-left : (i : ℕ) → length (left (ruleOf gamma) double i) ≡ 2
+unfolding left
+both-left i =
+    omega (
+      arith,
+      twice (ruleOf gamma) double 7 (lit≤ tt) i,
+      count-le-length 7 (left (ruleOf gamma) double i),
+      left-fewer (ruleOf gamma) double 0 i (omega arith),
+    )
+
+refused-6 : buildCall gamma double room ≡ refusedRun 6 2 room
+refused-6 =
+    demand3 gamma double room .refused double-bounds double-room .as-6 (omega (arith, both-left maxLevels))
+    ∙ ap (λ (n : ℕ). refusedRun 6 n room) (both-left maxLevels)
+
+-- ---- the other order, in stores that held something
+
+abbrev used : Stores
+used = stores (replicate 400 9) (replicate 100 9) (replicate 4 9) (replicate 2 9)
+
+same-room : SameRoom room used
+same-room = record { words = refl; samples = refl; collide = refl; rest = refl }
+
+swapped : List·Permᴰ pair (7 ∷ 5 ∷ [])
+swapped = List·Permᴰ·swap refl refl
+
+other-order : SameEnd (buildCall gamma pair room) (buildCall gamma (7 ∷ 5 ∷ []) used)
+other-order = build-permuted gamma swapped same-room
