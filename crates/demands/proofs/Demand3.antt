@@ -16,7 +16,7 @@ use lib.Seq.{ext-getD}
 use Rattle.bitvector.specs.declared.Made.the-variants as M
 use Rattle.bounds.specs.Bounds.{maxIds}
 use Rattle.demands.specs.Demands.{Lookups, listedAs, Listed, Indexed, Demand3, FromWords}
-use Rattle.demands.proofs.Built.{Done, run-done, answered, index-fits, lookup-is, from-words}
+use Rattle.demands.proofs.Built.{Done, run-done, headOf, wordsIn, samplesIn, answered, index-fits, lookup-is, from-words}
 use Rattle.demands.proofs.Order.{rows-any-order, build-any-order}
 use Rattle.demands.proofs.Room.{accepted, refusals}
 use Rattle.laws.specs.Bits.{wordsFor}
@@ -26,7 +26,7 @@ use Rattle.laws.proofs.Cases.{Tri, lt, eq, gt, tri, one-eq}
 use Rattle.laws.proofs.Counts.{same-length, length-sift, count-sift, count-at, only}
 use Rattle.laws.proofs.Sums.{sum-ones}
 use Rattle.mphf.specs.Build.{BuildEnd, builtOf, buildCall}
-use Rattle.mphf.specs.Index.{Stores, filled, ruleOf, roomOf, indexWords, indexSamples, indexHead}
+use Rattle.mphf.specs.Index.{Stores, ruleOf, roomOf}
 use Rattle.mphf.specs.Lookup.{found, nothing, lookupCall}
 use Rattle.mphf.specs.Rows.{rowIn, isNone, isRow, apart, listed, rowsBy, rowsCall}
 use Rattle.mphf.specs.declared.fitting.Head.{Head}
@@ -109,19 +109,20 @@ module _ (rowFor : ℕ → Option ℕ) (ids list : List ℕ) (once : (x : ℕ) �
 
 -- ---- the index of n levels
 
-module _ (gamma : Float) (ids : List ℕ) (wordRoom sampleRoom n : ℕ) (done : Done (ruleOf gamma) (roomOf wordRoom sampleRoom) ids n) (allowed : Allowed gamma) (few : length ids ≤ maxIds) where
+module _ (gamma : Float) (ids : List ℕ) (wordRoom sampleRoom n : ℕ) (done : Done (ruleOf gamma) (roomOf wordRoom sampleRoom) ids n)
+    (allowed : Allowed gamma) (few : length ids ≤ maxIds) where
   abbrev rule : Rule
   rule = ruleOf gamma
 
   -- the head and the stores, and the row list
   abbrev Top : Head
-  Top = indexHead rule ids n
+  Top = headOf gamma ids n
 
   abbrev Words : List ℕ
-  Words = filled (indexWords rule ids n) wordRoom
+  Words = wordsIn gamma ids n wordRoom
 
   abbrev Samples : List ℕ
-  Samples = filled (indexSamples rule ids n) sampleRoom
+  Samples = samplesIn gamma ids n sampleRoom
 
   abbrev Rows : List ℕ
   Rows = rowList rule ids n

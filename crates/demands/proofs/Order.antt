@@ -65,11 +65,12 @@ module _ (row : ℕ → Option ℕ) (count : ℕ) {xs ys : List ℕ} (s : Same x
   unfolding R.rowsBy
   same-by rows marks = rw (← same-apart, same-length s) (go (R.apart row xs count) refl (eqb (length ys) count))
     where
-      go : (b : Bool) → R.apart row xs count ≡ b → (n : Bool)
-          → R.check (n && b) 12 rows (R.clearMarks count marks) (R.listing Done (R.listed row xs count ++ drop count rows) (R.clearMarks count marks))
-          ≡ R.check (n && b) 12 rows (R.clearMarks count marks) (R.listing Done (R.listed row ys count ++ drop count rows) (R.clearMarks count marks))
-      go true e n =
-          ap (λ (l : List ℕ). R.check (n && true) 12 rows (R.clearMarks count marks) (R.listing Done (l ++ drop count rows) (R.clearMarks count marks))) (same-listed e)
+      after : Bool → List ℕ → R.Listing
+      after passed list =
+          R.check passed 12 rows (R.clearMarks count marks) (R.listing Done (list ++ drop count rows) (R.clearMarks count marks))
+
+      go : (b : Bool) → R.apart row xs count ≡ b → (n : Bool) → after (n && b) (R.listed row xs count) ≡ after (n && b) (R.listed row ys count)
+      go true e n = ap (after (n && true)) (same-listed e)
       go false e true = refl
       go false e false = refl
 
@@ -134,7 +135,12 @@ checks-low gamma n collide rest =
     go true true true true = lit< tt
 
 alike : {a b : BuildEnd} → a ≡ b → SameEnd a b
-alike e = record { refusal = ap (λ (x : BuildEnd). x .refusal) e; value = ap (λ (x : BuildEnd). x .value) e; head = ap (λ (x : BuildEnd). x .head) e; stores = λ c. ap (λ (x : BuildEnd). x .stores) e }
+alike e = record {
+  refusal = ap (λ (x : BuildEnd). x .refusal) e;
+  value = ap (λ (x : BuildEnd). x .value) e;
+  head = ap (λ (x : BuildEnd). x .head) e;
+  stores = λ c. ap (λ (x : BuildEnd). x .stores) e;
+}
 
 module _ (gamma : Float) (ids : List ℕ) {s t : Stores} (r : SameRoom s t) where
   room-ended : (o : Outcome) → ended gamma ids s o ≡ ended gamma ids t o
@@ -169,7 +175,8 @@ pub build-same : (gamma : Float) {xs ys : List ℕ} → Same xs ys → {s t : St
 build-same gamma {xs} {ys} e {s} {t} r = rw (build-any-order gamma e s) (build-by-room gamma ys r)
 
 -- the same, where the ids are rearranged as mathlib has it
-pub build-permuted : (gamma : Float) {xs ys : List ℕ} → List·Permᴰ xs ys → {s t : Stores} → SameRoom s t → SameEnd (buildCall gamma xs s) (buildCall gamma ys t)
+pub build-permuted : (gamma : Float) {xs ys : List ℕ} → List·Permᴰ xs ys → {s t : Stores} → SameRoom s t
+    → SameEnd (buildCall gamma xs s) (buildCall gamma ys t)
 build-permuted gamma p r = build-same gamma (perm-same p) r
 
 pub rows-permuted : (head : Head) (words samples rows marks : List ℕ) {xs ys : List ℕ} → List·Permᴰ xs ys

@@ -48,10 +48,11 @@ module _ (gamma : Float) (ids : List ℕ) (s : Stores) where
 
   -- ---- the run
 
-  build-runs : InBounds gamma ids s → buildCall gamma ids s ≡ ended gamma ids s outcome
+  pub build-runs : InBounds gamma ids s → buildCall gamma ids s ≡ ended gamma ids s outcome
   unfolding buildCall
   build-runs b =
-      rw (← (checked gamma (length ids) (length (s .collide)) (length (s .rest)) (b .allowed .above) (b .allowed .within) (b .few-ids) (b .rest-long) (b .collide-long)))
+      let passes = checked gamma (length ids) (length (s .collide)) (length (s .rest)) (b .allowed .above) (b .allowed .within) (b .few-ids) (b .rest-long) in
+      rw (← (passes (b .collide-long)))
 
   -- an accepted build was in bounds, and its run was built
   pub record Accepted : Type 0 where
@@ -64,7 +65,8 @@ module _ (gamma : Float) (ids : List ℕ) (s : Stores) where
   unfolding buildCall
   in-bounds = go (buildChecks gamma (length ids) (length (s .collide)) (length (s .rest))) refl
     where
-      go : (m : Made) → buildChecks gamma (length ids) (length (s .collide)) (length (s .rest)) ≡ m → afterChecks m gamma ids s .refusal ≡ 0 → InBounds gamma ids s
+      go : (m : Made) → buildChecks gamma (length ids) (length (s .collide)) (length (s .rest)) ≡ m → afterChecks m gamma ids s .refusal ≡ 0
+          → InBounds gamma ids s
       go (Refused r) c e = absurd (omega (arith, number-pos r))
       go Done c e =
           let p = passed gamma (length ids) (length (s .collide)) (length (s .rest)) c in
