@@ -1,27 +1,33 @@
 -- What the theorems of this crate ask for can be had, and both sides of what they tell apart are there: gamma 2.0, two ids, and the stores of 01's examples.
 -- Assumes nothing.
-use mathlib.Core.Path.{_≡_, refl, ap, _∙_}
+use mathlib.Core.Path.{_≡_, refl, sym, ap, _∙_}
+use mathlib.Core.Bool.{false}
 use mathlib.Core.List.{List, [], _∷_, List·Permᴰ, List·Permᴰ·swap}
-use Prim.Native.Nat.{ℕ, _≤_, _<_}
+use Prim.Native.Nat.{ℕ, zero, suc, _*_, _≤_, _<_}
+use native.Mathlib.Nat.{le-trans, le-of-eq, lt-of-lt-of-le}
 use native.Mathlib.Omega.{arith}
-use lib.Dec.{lit≤}
+use lib.Dec.{lit<, lit≤}
 use lib.Ieee.{Float, binary64, ofBits, lt}
 use lib.ListN.{length, replicate}
 use Rattle.bounds.specs.Bounds.{maxLevels}
-use Rattle.demands.specs.Demands.{InBounds, RoomEnough, leftOver, Indexed, SameRoom, SameEnd, FromWords}
+use Rattle.demands.specs.Demands.{InBounds, RoomEnough, listedAs, Indexed, SameRoom, SameEnd, FromWords}
 use Rattle.demands.proofs.Demand3.{demand3, samples-from-words}
 use Rattle.demands.proofs.Order.{build-permuted}
-use Rattle.laws.specs.Bits.{has, bitAt, packed}
-use Rattle.laws.proofs.Counts.{count-le-length}
+use Rattle.demands.proofs.Room.{build-runs}
+use Rattle.laws.specs.Bits.{wordsFor, has, bitAt, packed}
+use Rattle.laws.proofs.Counts.{count-le-length, perm-same}
 use Rattle.mixer.specs.Mixer.{mixed}
 use Rattle.mixer.specs.Position.{position}
-use Rattle.mphf.specs.Build.{BuildEnd, refusedRun, buildChecks, buildCall}
-use Rattle.mphf.specs.Index.{Stores, stores, zeros, ruleOf, indexWords, indexSamples, indexSizes}
-use Rattle.mphf.specs.Layout.{fit}
+use Rattle.mphf.specs.Build.{BuildEnd, refusedRun, ended, buildChecks, buildCall}
+use Rattle.mphf.specs.Index.{Stores, stores, zeros, ruleOf, roomOf, indexWords, indexSamples, indexSizes}
+use Rattle.mphf.specs.Layout.{samplesOfSize, fit}
 use Rattle.mphf.specs.Lookup.{found, nothing, rowAnswer, findIn, lookupCall}
+use Rattle.mphf.specs.Rows.{rowsCall}
 use Rattle.ranks.specs.Ranks.{firstSamples, onesFrom}
-use Rattle.rule.specs.Rule.{left, runFrom, first}
+use Rattle.rule.specs.Demand.{Reaches, out-of-room}
+use Rattle.rule.specs.Rule.{Room, left, span, start, fits, runFrom, first}
 use Rattle.rule.proofs.Levels.{left-fewer, twice}
+use Rattle.rule.proofs.Run.{room-enough, words-short, ends-only}
 use Rattle.sizes.specs.Sizes.{sizeFor, wholeOf, rounded}
 
 abbrev gamma : Float
@@ -68,11 +74,13 @@ abbrev end : BuildEnd
 end = buildCall gamma pair room
 
 foreign-none : lookupCall (end .head) (end .stores .words) (end .stores .samples) 0 ≡ nothing
-unfolding lt ofBits sizeFor wholeOf rounded buildCall buildChecks runFrom left position mixed lookupCall fit findIn first has bitAt packed indexWords indexSizes indexSamples firstSamples
+unfolding lt ofBits sizeFor wholeOf rounded buildCall buildChecks runFrom left position mixed
+    lookupCall fit findIn first has bitAt packed indexWords indexSizes indexSamples firstSamples
 foreign-none = refl
 
 foreign-row : lookupCall (end .head) (end .stores .words) (end .stores .samples) 8 ≡ found (record { row = 0; level = 0; position = 16 })
-unfolding lt ofBits sizeFor wholeOf rounded buildCall buildChecks runFrom left position mixed lookupCall fit findIn first has bitAt packed indexWords indexSizes indexSamples firstSamples rowAnswer onesFrom
+unfolding lt ofBits sizeFor wholeOf rounded buildCall buildChecks runFrom left position mixed
+    lookupCall fit findIn first has bitAt packed indexWords indexSizes indexSamples firstSamples rowAnswer onesFrom
 foreign-row = refl
 
 -- ---- one id twice is refused: with 6 in this room, giving 2, and with 5 where there is a word less, giving level 99
@@ -92,6 +100,43 @@ refused-6 =
     demand3 gamma double room .refused double-bounds double-room .as-6 (omega (arith, both-left maxLevels))
     ∙ ap (λ (n : ℕ). refusedRun 6 n room) (both-left maxLevels)
 
+-- the same stores with a word less: room for 99 levels of 4 words, and not for the last
+abbrev less : Stores
+less = stores (zeros 399) (zeros 100) (zeros 4) (zeros 2)
+
+less-bounds : InBounds gamma double less
+less-bounds = record { allowed = double-bounds .allowed; few-ids = lit≤ tt; rest-long = lit≤ tt; collide-long = double-bounds .collide-long }
+
+abbrev lessRoom : Room
+lessRoom = roomOf 399 100
+
+size-is : (i : ℕ) → span (ruleOf gamma) double i ≡ 255
+unfolding ofBits sizeFor wholeOf rounded
+size-is i = rw (both-left i)
+
+words-taken : (i : ℕ) → start wordsFor (span (ruleOf gamma) double) i ≡ 4 * i
+words-taken zero = refl
+words-taken (suc i) = omega (arith, words-taken i, size-is i)
+
+samples-taken : (i : ℕ) → start samplesOfSize (span (ruleOf gamma) double) i ≡ i
+samples-taken zero = refl
+samples-taken (suc i) = omega (arith, samples-taken i, size-is i)
+
+refused-5 : buildCall gamma double less ≡ refusedRun 5 99 less
+refused-5 =
+    build-runs gamma double less less-bounds
+    ∙ ap (ended gamma double less) (ends-only (ruleOf gamma) lessRoom double maxLevels (out-of-room 99 (lit< tt) reaches full refl))
+  where
+    reaches : Reaches (ruleOf gamma) lessRoom double 99
+    reaches = record {
+      room-for =
+          room-enough (ruleOf gamma) lessRoom double 99 (le-trans (le-of-eq (words-taken 99)) (lit≤ tt)) (le-trans (le-of-eq (samples-taken 99)) (lit≤ tt));
+      more-after = λ j h. omega (arith, both-left (suc j));
+    }
+
+    full : fits (ruleOf gamma) lessRoom double 100 ≡ false
+    full = words-short (ruleOf gamma) lessRoom double 100 (lt-of-lt-of-le (lit< tt) (le-of-eq (sym (words-taken 100))))
+
 -- ---- the other order, in stores that held something
 
 abbrev used : Stores
@@ -105,3 +150,15 @@ swapped = List·Permᴰ·swap refl refl
 
 other-order : SameEnd (buildCall gamma pair room) (buildCall gamma (7 ∷ 5 ∷ []) used)
 other-order = build-permuted gamma swapped same-room
+
+-- ---- the row list, given the ids in the other order, and the samples
+
+index : Indexed pair end
+index = demand3 gamma pair room .accepted accepted
+
+listed : rowsCall (end .head) (end .stores .words) (end .stores .samples) (7 ∷ 5 ∷ []) (9 ∷ 9 ∷ 9 ∷ []) (8 ∷ 8 ∷ [])
+    ≡ listedAs (index .rowList) 2 (9 ∷ 9 ∷ 9 ∷ []) (8 ∷ 8 ∷ [])
+listed = index .listed .succeeds (7 ∷ 5 ∷ []) (9 ∷ 9 ∷ 9 ∷ []) (8 ∷ 8 ∷ []) (perm-same (List·Permᴰ·swap refl refl)) (lit≤ tt) (lit≤ tt)
+
+sampled : FromWords (end .head) (end .stores .words) (end .stores .samples)
+sampled = samples-from-words gamma pair room accepted

@@ -9,7 +9,7 @@ use lib.Ieee.{Float}
 use lib.ListN.{length}
 use Rattle.bitvector.specs.declared.Made.{Made}
 use Rattle.bitvector.specs.declared.Made.the-variants.{Done, Refused}
-use Rattle.bounds.specs.Bounds.{maxLevels}
+use Rattle.bounds.specs.Bounds.{maxIds, maxBits, maxLevels}
 use Rattle.demands.specs.Demands.{InBounds, RoomEnough, leftOver, Refusals}
 use Rattle.laws.specs.Bits.{wordsFor}
 use Rattle.laws.specs.Counting.{sum}
@@ -26,7 +26,9 @@ use Rattle.rule.specs.Rule.{Rule, Room, Outcome, built, noRoom, idsLeft, left, 
 use Rattle.rule.proofs.Demand.{demand3}
 use Rattle.rule.proofs.Levels.{left-fewer}
 use Rattle.rule.proofs.Run.{room-enough, all-enough}
-use Rattle.sizes.proofs.Sizes.{words-mono, samples-mono}
+use Rattle.sizes.specs.Gamma.{Allowed}
+use Rattle.sizes.specs.Sizes.{sizeFor}
+use Rattle.sizes.proofs.Sizes.{size-most, words-mono, samples-mono}
 
 -- n numbers of which none is above c
 sum-at-most : (w : ℕ → ℕ) (c n : ℕ) → ((i : ℕ) → w i ≤ c) → sum w n ≤ n * c
@@ -35,6 +37,14 @@ sum-at-most w c (suc n) h = omega (arith, sum-at-most w c n h, h n)
 
 sum-fits : (w : ℕ → ℕ) (c n room : ℕ) → ((i : ℕ) → w i ≤ c) → n * c ≤ room → sum w n ≤ room
 sum-fits w c n room h r = le-trans (sum-at-most w c n h) r
+
+-- ---- room that is enough for any ids and gamma in bounds: a hundred levels of the most bits
+
+pub room-always : (gamma : Float) (ids : List ℕ) (s : Stores) → Allowed gamma → length ids ≤ maxIds → maxLevels * wordsFor maxBits ≤ length (s .words)
+    → maxLevels * samplesOfSize maxBits ≤ length (s .samples) → RoomEnough gamma ids s
+room-always gamma ids s allowed few w v =
+    let most : sizeFor gamma (length ids) ≤ maxBits = size-most gamma (length ids) allowed few in
+    record { words = omega arith; samples = omega arith }
 
 module _ (gamma : Float) (ids : List ℕ) (s : Stores) where
   abbrev rule : Rule
