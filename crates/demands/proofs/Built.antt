@@ -42,7 +42,7 @@ use Rattle.sizes.proofs.Sizes.{size-least, size-most}
 
 -- ---- one of several lists that lie one after another in a store
 
-pub block-part : (f : ℕ → List ℕ) (w : ℕ → ℕ) → ((i : ℕ) → length (f i) ≡ w i) → (n i : ℕ) → i < n → (past : List ℕ)
+block-part : (f : ℕ → List ℕ) (w : ℕ → ℕ) → ((i : ℕ) → length (f i) ≡ w i) → (n i : ℕ) → i < n → (past : List ℕ)
     → take (w i) (drop (sum w i) (blocks f n ++ past)) ≡ f i
 block-part f w e zero i h past = absurd (omega arith)
 block-part f w e (suc n) i h past = rw (append-assoc (blocks f n) (f n) past) (go (tri i n) (λ q. block-part f w e n i q (f n ++ past)))
@@ -58,17 +58,17 @@ block-part f w e (suc n) i h past = rw (append-assoc (blocks f n) (f n) past) (g
 
 -- ---- what the run's end says
 
-pub record Done (rule : Rule) (room : Room) (ids : List ℕ) (n : ℕ) : Type 0 where
+pub record Finished (rule : Rule) (room : Room) (ids : List ℕ) (n : ℕ) : Type 0 where
   pub some-level : 1 ≤ n
   pub few-levels : n ≤ maxLevels
   pub none-left : left rule ids n ≡ []
   pub in-words : start (room .words) (span rule ids) n ≤ room .wordRoom
   pub in-samples : start (room .samples) (span rule ids) n ≤ room .sampleRoom
 
-pub run-done : (rule : Rule) (room : Room) (ids : List ℕ) (n : ℕ) → run rule room ids maxLevels ≡ built n → Done rule room ids n
+pub run-done : (rule : Rule) (room : Room) (ids : List ℕ) (n : ℕ) → run rule room ids maxLevels ≡ built n → Finished rule room ids n
 run-done rule room ids n ran = go (run-ends rule room ids maxLevels)
   where
-    go : Ends rule room ids maxLevels (run rule room ids maxLevels) → Done rule room ids n
+    go : Ends rule room ids maxLevels (run rule room ids maxLevels) → Finished rule room ids n
     go (none-left i h r f d q) =
         let z : suc i ≡ n = cc in
         rw (← z) (record {
@@ -176,7 +176,7 @@ module _ (gamma : Float) (ids : List ℕ) (wordRoom sampleRoom n : ℕ) where
   samples-by : (i : ℕ) → i < n → samplesAt rule ids i ≡ samplesBy (headOf gamma ids n) Words i
   samples-by i h = sym (ap₂ (λ (b : ℕ) (ws : List ℕ). samplesOf b ws) (set-before i (omega arith)) (words-are i h))
 
-  module _ (done : Done (ruleOf gamma) (roomOf wordRoom sampleRoom) ids n) where
+  module _ (done : Finished (ruleOf gamma) (roomOf wordRoom sampleRoom) ids n) where
     words-long : length Words ≡ wordRoom
     words-long = length-filled (indexWords rule ids n) wordRoom (rw (length-words rule ids n) (done .in-words))
 

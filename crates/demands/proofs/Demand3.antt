@@ -15,8 +15,8 @@ use lib.ListN.{length, getD}
 use lib.Seq.{ext-getD}
 use Rattle.bitvector.specs.declared.Made.the-variants as M
 use Rattle.bounds.specs.Bounds.{maxIds}
-use Rattle.demands.specs.Demands.{Lookups, listedAs, Listed, Indexed, Demand3, FromWords}
-use Rattle.demands.proofs.Built.{Done, run-done, headOf, wordsIn, samplesIn, answered, index-fits, lookup-is, from-words}
+use Rattle.demands.specs.Demands.{roomIn, Lookups, listedAs, Listed, Indexed, Demand3, samplesBy, FromWords}
+use Rattle.demands.proofs.Built.{Finished, run-done, headOf, wordsIn, samplesIn, answered, index-fits, lookup-is, from-words}
 use Rattle.demands.proofs.Order.{rows-any-order, build-any-order}
 use Rattle.demands.proofs.Room.{accepted, refusals}
 use Rattle.laws.specs.Bits.{wordsFor}
@@ -26,14 +26,14 @@ use Rattle.laws.proofs.Cases.{Tri, lt, eq, gt, tri, one-eq}
 use Rattle.laws.proofs.Counts.{same-length, length-sift, count-sift, count-at, only}
 use Rattle.laws.proofs.Sums.{sum-ones}
 use Rattle.mphf.specs.Build.{BuildEnd, builtOf, buildCall}
-use Rattle.mphf.specs.Index.{Stores, ruleOf, roomOf}
+use Rattle.mphf.specs.Index.{Stores, filled, ruleOf, roomOf}
 use Rattle.mphf.specs.Lookup.{found, nothing, lookupCall}
 use Rattle.mphf.specs.Rows.{rowIn, isNone, isRow, apart, listed, rowsBy, rowsCall}
 use Rattle.mphf.specs.declared.fitting.Head.{Head}
 use Rattle.mphf.proofs.Lists.{apart-is}
 use Rattle.mphf.proofs.Runs.{rule-sound}
 use Rattle.rule.specs.Demand.{Perfect}
-use Rattle.rule.specs.Rule.{Rule, Room, Place, rowOf, find, row, rowList}
+use Rattle.rule.specs.Rule.{Rule, Place, rowOf, find, row, rowList}
 use Rattle.rule.proofs.Reader.{row-found}
 use Rattle.rule.proofs.Rows.{perfect}
 use Rattle.sizes.specs.Gamma.{Allowed}
@@ -109,7 +109,7 @@ module _ (rowFor : ℕ → Option ℕ) (ids list : List ℕ) (once : (x : ℕ) �
 
 -- ---- the index of n levels
 
-module _ (gamma : Float) (ids : List ℕ) (wordRoom sampleRoom n : ℕ) (done : Done (ruleOf gamma) (roomOf wordRoom sampleRoom) ids n)
+module _ (gamma : Float) (ids : List ℕ) (wordRoom sampleRoom n : ℕ) (done : Finished (ruleOf gamma) (roomOf wordRoom sampleRoom) ids n)
     (allowed : Allowed gamma) (few : length ids ≤ maxIds) where
   abbrev rule : Rule
   rule = ruleOf gamma
@@ -199,13 +199,10 @@ module _ (gamma : Float) (ids : List ℕ) (wordRoom sampleRoom n : ℕ) (done : 
 -- ---- of an accepted build
 
 module _ (gamma : Float) (ids : List ℕ) (s : Stores) where
-  abbrev room : Room
-  room = roomOf (length (s .words)) (length (s .samples))
-
   indexed : buildCall gamma ids s .refusal ≡ 0 → Indexed ids (buildCall gamma ids s)
   indexed done =
       let a = accepted gamma ids s done in
-      let d = run-done (ruleOf gamma) room ids (a .levels) (a .ran) in
+      let d = run-done (ruleOf gamma) (roomIn s) ids (a .levels) (a .ran) in
       subst (Indexed ids) (sym (a .call-is)) (record {
         counted = refl;
         lookups = lookups gamma ids (length (s .words)) (length (s .samples)) (a .levels) d (a .bounds .allowed) (a .bounds .few-ids);
@@ -226,4 +223,8 @@ module _ (gamma : Float) (ids : List ℕ) (s : Stores) where
   samples-from-words done =
       let a = accepted gamma ids s done in
       subst (λ (x : BuildEnd). FromWords (x .head) (x .stores .words) (x .stores .samples)) (sym (a .call-is))
-      (from-words gamma ids (length (s .words)) (length (s .samples)) (a .levels) (run-done (ruleOf gamma) room ids (a .levels) (a .ran)))
+      (from-words gamma ids (length (s .words)) (length (s .samples)) (a .levels) (run-done (ruleOf gamma) (roomIn s) ids (a .levels) (a .ran)))
+
+-- so that there is one sample store of a given length for a head and its words
+pub samples-decided : (head : Head) (words ss ts : List ℕ) → FromWords head words ss → FromWords head words ts → length ss ≡ length ts → ss ≡ ts
+samples-decided head words ss ts e f l = e .store ∙ ap (filled (blocks (samplesBy head words) (head .levels))) l ∙ sym (f .store)

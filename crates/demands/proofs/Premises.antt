@@ -10,24 +10,24 @@ use lib.Dec.{lit<, lit≤}
 use lib.Ieee.{Float, binary64, ofBits, lt}
 use lib.ListN.{length, replicate}
 use Rattle.bounds.specs.Bounds.{maxLevels}
-use Rattle.demands.specs.Demands.{InBounds, RoomEnough, listedAs, Indexed, SameRoom, SameEnd, FromWords}
+use Rattle.demands.specs.Demands.{InBounds, RoomEnough, roomIn, listedAs, Indexed, SameRoom, SameEnd, FromWords}
 use Rattle.demands.proofs.Demand3.{demand3, samples-from-words}
 use Rattle.demands.proofs.Order.{build-permuted}
-use Rattle.demands.proofs.Room.{build-runs}
+use Rattle.demands.proofs.Room.{endings}
 use Rattle.laws.specs.Bits.{wordsFor, has, bitAt, packed}
 use Rattle.laws.proofs.Counts.{count-le-length, perm-same}
 use Rattle.mixer.specs.Mixer.{mixed}
 use Rattle.mixer.specs.Position.{position}
-use Rattle.mphf.specs.Build.{BuildEnd, refusedRun, ended, buildChecks, buildCall}
-use Rattle.mphf.specs.Index.{Stores, stores, zeros, ruleOf, roomOf, indexWords, indexSamples, indexSizes}
+use Rattle.mphf.specs.Build.{BuildEnd, refusedRun, buildChecks, buildCall}
+use Rattle.mphf.specs.Index.{Stores, stores, zeros, ruleOf, indexWords, indexSamples, indexSizes}
 use Rattle.mphf.specs.Layout.{samplesOfSize, fit}
 use Rattle.mphf.specs.Lookup.{found, nothing, rowAnswer, findIn, lookupCall}
 use Rattle.mphf.specs.Rows.{rowsCall}
 use Rattle.ranks.specs.Ranks.{firstSamples, onesFrom}
-use Rattle.rule.specs.Demand.{Reaches, out-of-room}
+use Rattle.rule.specs.Demand.{Reaches}
 use Rattle.rule.specs.Rule.{Room, left, span, start, fits, runFrom, first}
 use Rattle.rule.proofs.Levels.{left-fewer, twice}
-use Rattle.rule.proofs.Run.{room-enough, words-short, ends-only}
+use Rattle.rule.proofs.Run.{room-enough, words-short}
 use Rattle.sizes.specs.Sizes.{sizeFor, wholeOf, rounded}
 
 abbrev gamma : Float
@@ -108,7 +108,7 @@ less-bounds : InBounds gamma double less
 less-bounds = record { allowed = double-bounds .allowed; few-ids = lit≤ tt; rest-long = lit≤ tt; collide-long = double-bounds .collide-long }
 
 abbrev lessRoom : Room
-lessRoom = roomOf 399 100
+lessRoom = roomIn less
 
 size-is : (i : ℕ) → span (ruleOf gamma) double i ≡ 255
 unfolding ofBits sizeFor wholeOf rounded
@@ -123,9 +123,7 @@ samples-taken zero = refl
 samples-taken (suc i) = omega (arith, samples-taken i, size-is i)
 
 refused-5 : buildCall gamma double less ≡ refusedRun 5 99 less
-refused-5 =
-    build-runs gamma double less less-bounds
-    ∙ ap (ended gamma double less) (ends-only (ruleOf gamma) lessRoom double maxLevels (out-of-room 99 (lit< tt) reaches full refl))
+refused-5 = endings gamma double less less-bounds .as-5 99 .1 (lit< tt, reaches, full)
   where
     reaches : Reaches (ruleOf gamma) lessRoom double 99
     reaches = record {

@@ -1,6 +1,7 @@
--- A build in bounds runs the level rule, and is accepted exactly if that run is built; with room enough it is refused exactly if ids are left. Assumes nothing.
-use mathlib.Core.Path.{_≡_, refl, ap, _∙_}
-use mathlib.Core.List.{List}
+-- How a build in bounds ends: as the run of the level rule does, in any room; and with room enough it is refused exactly if ids are left. Assumes nothing.
+use mathlib.Core.Path.{_≡_, refl, sym, ap, _∙_, subst}
+use mathlib.Core.Bool.{true, false}
+use mathlib.Core.List.{List, []}
 use Prim.Native.Nat.{ℕ, zero, suc, _*_, _≤_, _<_}
 use native.Mathlib.Nat.{le-trans}
 use native.Mathlib.Omega.{arith}
@@ -10,22 +11,22 @@ use lib.ListN.{length}
 use Rattle.bitvector.specs.declared.Made.{Made}
 use Rattle.bitvector.specs.declared.Made.the-variants.{Done, Refused}
 use Rattle.bounds.specs.Bounds.{maxIds, maxBits, maxLevels}
-use Rattle.demands.specs.Demands.{InBounds, RoomEnough, leftOver, Refusals}
+use Rattle.demands.specs.Demands.{InBounds, RoomEnough, leftOver, Refusals, roomIn, ComesTo, roomFor, Endings}
 use Rattle.laws.specs.Bits.{wordsFor}
 use Rattle.laws.specs.Counting.{sum}
 use Rattle.laws.proofs.Cases.{Tri, lt, eq, gt, tri}
 use Rattle.laws.proofs.Counts.{empty}
-use Rattle.mphf.specs.Build.{BuildEnd, buildChecks, ended, afterChecks, buildCall}
-use Rattle.mphf.specs.Index.{Stores, ruleOf, roomOf}
+use Rattle.mphf.specs.Build.{BuildEnd, refusedRun, buildChecks, ended, afterChecks, buildCall}
+use Rattle.mphf.specs.Index.{Stores, ruleOf}
 use Rattle.mphf.specs.Layout.{samplesOfSize}
 use Rattle.mphf.proofs.Builds.{checked, passed}
 use Rattle.mphf.proofs.Runs.{rule-sound}
 use Rattle.refusal.proofs.Apart.{number-pos}
-use Rattle.rule.specs.Demand.{Enough, Demand3}
+use Rattle.rule.specs.Demand.{Ends, none-left, out-of-room, at-limit, Enough, Demand3}
 use Rattle.rule.specs.Rule.{Rule, Room, Outcome, built, noRoom, idsLeft, left, span, run}
 use Rattle.rule.proofs.Demand.{demand3}
 use Rattle.rule.proofs.Levels.{left-fewer}
-use Rattle.rule.proofs.Run.{room-enough, all-enough}
+use Rattle.rule.proofs.Run.{room-enough, all-enough, run-ends, ends-only, left-known}
 use Rattle.sizes.specs.Gamma.{Allowed}
 use Rattle.sizes.specs.Sizes.{sizeFor}
 use Rattle.sizes.proofs.Sizes.{size-most, words-mono, samples-mono}
@@ -51,14 +52,14 @@ module _ (gamma : Float) (ids : List ℕ) (s : Stores) where
   rule = ruleOf gamma
 
   abbrev room : Room
-  room = roomOf (length (s .words)) (length (s .samples))
+  room = roomIn s
 
   abbrev outcome : Outcome
   outcome = run rule room ids maxLevels
 
   -- ---- the run
 
-  pub build-runs : InBounds gamma ids s → buildCall gamma ids s ≡ ended gamma ids s outcome
+  build-runs : InBounds gamma ids s → buildCall gamma ids s ≡ ended gamma ids s outcome
   unfolding buildCall
   build-runs b =
       let passes = checked gamma (length ids) (length (s .collide)) (length (s .rest)) (b .allowed .above) (b .allowed .within) (b .few-ids) (b .rest-long) in
@@ -68,7 +69,7 @@ module _ (gamma : Float) (ids : List ℕ) (s : Stores) where
   pub record Accepted : Type 0 where
     pub bounds : InBounds gamma ids s
     pub levels : ℕ
-    pub ran : run (ruleOf gamma) (roomOf (length (s .words)) (length (s .samples))) ids maxLevels ≡ built levels
+    pub ran : run (ruleOf gamma) (roomIn s) ids maxLevels ≡ built levels
     pub call-is : buildCall gamma ids s ≡ ended gamma ids s (built levels)
 
   in-bounds : buildCall gamma ids s .refusal ≡ 0 → InBounds gamma ids s
@@ -89,6 +90,70 @@ module _ (gamma : Float) (ids : List ℕ) (s : Stores) where
       go (built n) q b z = record { bounds = b; levels = n; ran = q; call-is = build-runs b ∙ ap (ended gamma ids s) q }
       go (noRoom i) q b z = let w : ended gamma ids s (noRoom i) .refusal ≡ 0 = rw q at z in absurd (omega arith)
       go (idsLeft n) q b z = let w : ended gamma ids s (idsLeft n) .refusal ≡ 0 = rw q at z in absurd (omega arith)
+
+  -- ---- how it ends, in any room
+
+  module _ (b : InBounds gamma ids s) where
+    -- the run's outcome, by what the build leaves
+    was-5 : (o : Outcome) (i : ℕ) → ended gamma ids s o ≡ refusedRun 5 i s → o ≡ noRoom i
+    was-5 (built n) i e = absurd (omega (arith, ap (λ (x : BuildEnd). x .refusal) e))
+    was-5 (noRoom j) i e = ap (λ (x : BuildEnd). noRoom (x .value)) e
+    was-5 (idsLeft n) i e = absurd (omega (arith, ap (λ (x : BuildEnd). x .refusal) e))
+
+    was-6 : (o : Outcome) (n : ℕ) → ended gamma ids s o ≡ refusedRun 6 n s → o ≡ idsLeft n
+    was-6 (built m) n e = absurd (omega (arith, ap (λ (x : BuildEnd). x .refusal) e))
+    was-6 (noRoom i) n e = absurd (omega (arith, ap (λ (x : BuildEnd). x .refusal) e))
+    was-6 (idsLeft m) n e = ap (λ (x : BuildEnd). idsLeft (x .value)) e
+
+    abbrev Last : ℕ → Type 0
+    Last i = (i < maxLevels) × ComesTo gamma ids s i × (roomFor gamma ids s i ≡ true) × (left rule ids (suc i) ≡ [])
+
+    abbrev Full : ℕ → Type 0
+    Full i = (i < maxLevels) × ComesTo gamma ids s i × (roomFor gamma ids s i ≡ false)
+
+    last-level : (i : ℕ) → outcome ≡ built (suc i) → Last i
+    last-level i e = go (run-ends rule room ids maxLevels)
+      where
+        go : Ends rule room ids maxLevels outcome → Last i
+        go (none-left j h r f d q) =
+            let z : suc j ≡ suc i = cc in
+            subst Last (omega arith) (h, r, f, d)
+        go (out-of-room j h r f q) = let z : _≡_ {A = ℕ} 0 1 = cc in absurd (omega arith)
+        go (at-limit r q) = let z : _≡_ {A = ℕ} 0 1 = cc in absurd (omega arith)
+
+    full-level : (i : ℕ) → outcome ≡ noRoom i → Full i
+    full-level i e = go (run-ends rule room ids maxLevels)
+      where
+        go : Ends rule room ids maxLevels outcome → Full i
+        go (none-left j h r f d q) = let z : _≡_ {A = ℕ} 0 1 = cc in absurd (omega arith)
+        go (out-of-room j h r f q) =
+            let z : j ≡ i = cc in
+            subst Full z (h, r, f)
+        go (at-limit r q) = let z : _≡_ {A = ℕ} 0 1 = cc in absurd (omega arith)
+
+    leaves : {o : Outcome} → Ends rule room ids maxLevels o → buildCall gamma ids s ≡ ended gamma ids s o
+    leaves t = build-runs b ∙ ap (ended gamma ids s) (ends-only rule room ids maxLevels t)
+
+    pub endings : Endings gamma ids s
+    endings = record {
+      done = λ i. (
+        λ e.
+            let a = accepted (e .0) in
+            let n : a .levels ≡ suc i = sym (ap (λ (x : BuildEnd). x .head .levels) (a .call-is)) ∙ e .1 in
+            last-level i (a .ran ∙ ap built n),
+        λ t.
+            let e = leaves (none-left i (t .0) (t .1) (t .2) (t .3) refl) in
+            (ap (λ (x : BuildEnd). x .refusal) e, ap (λ (x : BuildEnd). x .head .levels) e),
+      );
+      as-5 = λ i. (
+        λ e. full-level i (was-5 outcome i (sym (build-runs b) ∙ e)),
+        λ t. leaves (out-of-room i (t .0) (t .1) (t .2) refl),
+      );
+      as-6 = λ n. (
+        λ e. left-known rule room ids maxLevels n (was-6 outcome n (sym (build-runs b) ∙ e)),
+        λ t. leaves (at-limit (t .0) (ap idsLeft (sym (t .1)))),
+      );
+    }
 
   -- ---- room enough: no level is larger than level 0
 

@@ -2,22 +2,23 @@
 -- `lookup` and `rows` leave. An id is a number that stands in ids: `0 < count x ids`; `Same` lists hold the same ids, each as often, in any order.
 use mathlib.Core.Path.{_≡_}
 use mathlib.Core.Logic.{_↔_, _⊎_}
-use mathlib.Core.List.{List, _++_}
-use Prim.Native.Nat.{ℕ, _*_, _≤_, _<_}
+use mathlib.Core.Bool.{Bool, true, false}
+use mathlib.Core.List.{List, [], _++_}
+use Prim.Native.Nat.{ℕ, suc, _*_, _≤_, _<_}
 use lib.Ieee.{Float}
 use lib.ListN.{length, getD, drop}
 use Rattle.bounds.specs.Bounds.{maxIds, maxLevels}
 use Rattle.laws.specs.Counting.{sum, count, blocks, Same}
 use Rattle.laws.specs.Bits.{wordsFor}
 use Rattle.mphf.specs.Build.{BuildEnd, refusedRun, buildCall}
-use Rattle.mphf.specs.Index.{Stores, filled, ruleOf}
+use Rattle.mphf.specs.Index.{Stores, filled, ruleOf, roomOf}
 use Rattle.mphf.specs.Layout.{samplesOfSize, sizeAt, levelWords, levelSamples}
 use Rattle.mphf.specs.Lookup.{Answer, found, nothing, lookupCall}
 use Rattle.mphf.specs.Rows.{Listing, clearMarks, rowsCall}
 use Rattle.mphf.specs.declared.fitting.Head.{Head}
 use Rattle.ranks.specs.Ranks.{setBits, samplesOf}
-use Rattle.rule.specs.Demand.{Before}
-use Rattle.rule.specs.Rule.{Place, left}
+use Rattle.rule.specs.Demand.{Before, Reaches}
+use Rattle.rule.specs.Rule.{Room, Place, left, fits}
 use Rattle.sizes.specs.Gamma.{Allowed}
 use Rattle.sizes.specs.Sizes.{sizeFor}
 
@@ -53,6 +54,28 @@ pub record Refusals (gamma : Float) (ids : List ℕ) (s : Stores) : Type 0 where
   pub as-6 : 0 < leftOver gamma ids → buildCall gamma ids s ≡ refusedRun 6 (leftOver gamma ids) s
   -- so that 5 never comes
   pub never-5 : buildCall gamma ids s .refusal ≡ 5 → ⊥
+
+-- the room that the stores have
+abbrev pub roomIn : Stores → Room
+roomIn s = roomOf (length (s .words)) (length (s .samples))
+
+-- a build comes to level i: there is room for the levels before it, and ids are left after each of them
+abbrev pub ComesTo : Float → List ℕ → Stores → ℕ → Type 0
+ComesTo gamma ids s i = Reaches (ruleOf gamma) (roomIn s) ids i
+
+-- whether there is room for level i too
+abbrev pub roomFor : Float → List ℕ → Stores → ℕ → Bool
+roomFor gamma ids s i = fits (ruleOf gamma) (roomIn s) ids (suc i)
+
+-- How a build in bounds ends, whatever room there is.
+pub record Endings (gamma : Float) (ids : List ℕ) (s : Stores) : Type 0 where
+  -- accepted with levels 0 to i exactly if it comes to level i, there is room for it, and no id is left after it
+  pub done : (i : ℕ) → ((buildCall gamma ids s .refusal ≡ 0) × (buildCall gamma ids s .head .levels ≡ suc i))
+      ↔ ((i < maxLevels) × ComesTo gamma ids s i × (roomFor gamma ids s i ≡ true) × (left (ruleOf gamma) ids (suc i) ≡ []))
+  -- refused with 5, giving i, exactly if it comes to level i and there is no room for it
+  pub as-5 : (i : ℕ) → (buildCall gamma ids s ≡ refusedRun 5 i s) ↔ ((i < maxLevels) × ComesTo gamma ids s i × (roomFor gamma ids s i ≡ false))
+  -- refused with 6, giving n, exactly if it comes past the last level and n ids are left
+  pub as-6 : (n : ℕ) → (buildCall gamma ids s ≡ refusedRun 6 n s) ↔ (ComesTo gamma ids s maxLevels × (leftOver gamma ids ≡ n))
 
 -- ---- what an accepted build leaves
 
