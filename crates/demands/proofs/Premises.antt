@@ -8,17 +8,18 @@ use native.Mathlib.Nat.{le-trans, le-of-eq, lt-of-lt-of-le}
 use native.Mathlib.Omega.{arith}
 use lib.Dec.{lit<, lit≤}
 use lib.Ieee.{Float, binary64, ofBits, lt}
-use lib.ListN.{length, replicate}
+use lib.ListN.{length, replicate, length-replicate}
+use Rattle.bitvector.specs.declared.Made.the-variants as M
 use Rattle.bounds.specs.Bounds.{maxLevels}
 use Rattle.demands.specs.Demands.{InBounds, RoomEnough, roomIn, listedAs, Indexed, SameRoom, SameEnd, FromWords}
-use Rattle.demands.proofs.Demand3.{demand3, samples-from-words}
+use Rattle.demands.proofs.Demand3.{demand3, returned, samples-from-words}
 use Rattle.demands.proofs.Order.{build-permuted}
-use Rattle.demands.proofs.Room.{endings}
+use Rattle.demands.proofs.Room.{room-always, endings}
 use Rattle.laws.specs.Bits.{wordsFor, has, bitAt, packed}
 use Rattle.laws.proofs.Counts.{count-le-length, perm-same}
 use Rattle.mixer.specs.Mixer.{mixed}
 use Rattle.mixer.specs.Position.{position}
-use Rattle.mphf.specs.Build.{BuildEnd, refusedRun, buildChecks, buildCall}
+use Rattle.mphf.specs.Build.{BuildEnd, builtOf, refusedRun, buildChecks, buildCall}
 use Rattle.mphf.specs.Index.{Stores, stores, zeros, ruleOf, indexWords, indexSamples, indexSizes}
 use Rattle.mphf.specs.Layout.{samplesOfSize, fit}
 use Rattle.mphf.specs.Lookup.{found, nothing, rowAnswer, findIn, lookupCall}
@@ -68,10 +69,23 @@ accepted : buildCall gamma pair room .refusal ≡ 0
 unfolding lt ofBits sizeFor wholeOf rounded buildCall buildChecks runFrom left position mixed
 accepted = refl
 
--- ---- a foreign id gets none, or a row
-
 abbrev end : BuildEnd
 end = buildCall gamma pair room
+
+-- with level 0 alone
+one-level : end .head .levels ≡ 1
+unfolding lt ofBits sizeFor wholeOf rounded buildCall buildChecks runFrom left position mixed
+one-level = refl
+
+none-left : left (ruleOf gamma) pair 1 ≡ []
+none-left = endings gamma pair room pair-bounds .done 0 .0 (accepted, one-level) .3
+
+-- and returned as the promise of `build` says
+index : Indexed pair (builtOf M.Done (end .head) (end .stores))
+unfolding lt ofBits sizeFor wholeOf rounded buildCall buildChecks runFrom left position mixed
+index = returned gamma pair room (end .head) (end .stores) refl
+
+-- ---- a foreign id gets none, or a row
 
 foreign-none : lookupCall (end .head) (end .stores .words) (end .stores .samples) 0 ≡ nothing
 unfolding lt ofBits sizeFor wholeOf rounded buildCall buildChecks runFrom left position mixed
@@ -151,12 +165,15 @@ other-order = build-permuted gamma swapped same-room
 
 -- ---- the row list, given the ids in the other order, and the samples
 
-index : Indexed pair end
-index = demand3 gamma pair room .accepted accepted
-
 listed : rowsCall (end .head) (end .stores .words) (end .stores .samples) (7 ∷ 5 ∷ []) (9 ∷ 9 ∷ 9 ∷ []) (8 ∷ 8 ∷ [])
     ≡ listedAs (index .rowList) 2 (9 ∷ 9 ∷ 9 ∷ []) (8 ∷ 8 ∷ [])
 listed = index .listed .succeeds (7 ∷ 5 ∷ []) (9 ∷ 9 ∷ 9 ∷ []) (8 ∷ 8 ∷ []) (perm-same (List·Permᴰ·swap refl refl)) (lit≤ tt) (lit≤ tt)
 
 sampled : FromWords (end .head) (end .stores .words) (end .stores .samples)
 sampled = samples-from-words gamma pair room accepted
+
+-- ---- room that is always enough
+
+widest : (n m : ℕ) → 26_214_400 ≤ n → 3_276_800 ≤ m → RoomEnough gamma pair (stores (zeros n) (zeros m) [] [])
+widest n m p q =
+    room-always gamma pair (stores (zeros n) (zeros m) [] []) (pair-bounds .allowed) (pair-bounds .few-ids) (rw length-replicate p) (rw length-replicate q)
