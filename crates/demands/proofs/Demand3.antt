@@ -27,11 +27,13 @@ use Rattle.laws.proofs.Counts.{same-length, length-sift, count-sift, count-at, 
 use Rattle.laws.proofs.Sums.{sum-ones}
 use Rattle.mphf.specs.Build.{BuildEnd, builtOf, buildCall}
 use Rattle.mphf.specs.Index.{Stores, filled, ruleOf, roomOf}
-use Rattle.mphf.specs.Lookup.{found, nothing, lookupCall}
+use Rattle.mphf.specs.Lookup.{found, nothing, answerOf, lookupCall}
 use Rattle.mphf.specs.Rows.{rowIn, isNone, isRow, apart, listed, rowsBy, rowsCall}
+use Rattle.mphf.specs.declared.finding.Found.the-variants as F
 use Rattle.mphf.specs.declared.fitting.Head.{Head}
 use Rattle.mphf.proofs.Lists.{apart-is}
 use Rattle.mphf.proofs.Runs.{rule-sound}
+use Rattle.refusal.specs.declared.Refusal.{Refusal}
 use Rattle.rule.specs.Demand.{Perfect}
 use Rattle.rule.specs.Rule.{Rule, Place, rowOf, find, row, rowList}
 use Rattle.rule.proofs.Reader.{row-found}
@@ -228,3 +230,16 @@ module _ (gamma : Float) (ids : List ℕ) (s : Stores) where
 -- so that there is one sample store of a given length for a head and its words
 pub samples-decided : (head : Head) (words ss ts : List ℕ) → FromWords head words ss → FromWords head words ts → length ss ≡ length ts → ss ≡ ts
 samples-decided head words ss ts e f l = e .store ∙ ap (filled (blocks (samplesBy head words) (head .levels))) l ∙ sym (f .store)
+
+-- ---- no lookup in an index is refused, by the promise of `lookup`: its answer is a row or none
+
+pub never-refused : {ids : List ℕ} {end : BuildEnd} → Indexed ids end → (x : ℕ) (why : Refusal)
+    → answerOf (F.Refused why) ≡ lookupCall (end .head) (end .stores .words) (end .stores .samples) x → ⊥
+never-refused t x why e =
+    elim (t .lookups .any-number x) [
+      | inl n ↦ let z : _≡_ {A = ℕ} 0 1 = cc in absurd (omega arith)
+      | inr f ↦
+          let g = f .1 in
+          let z : _≡_ {A = ℕ} 0 1 = cc in
+          absurd (omega arith)
+    ]
