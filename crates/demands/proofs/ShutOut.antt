@@ -1,0 +1,66 @@
+-- Programs that the promises shut out. Assumes nothing.
+use mathlib.Core.Path.{_≡_, sym, ap, _∙_}
+use mathlib.Core.Bool.{true}
+use Prim.Native.Nat.{ℕ, _^_, _<_}
+use native.Mathlib.Omega.{arith}
+use lib.Dec.{lit<}
+use lib.ListN.{getD}
+use Rattle.refusal.specs.declared.Refusal.{Refusal}
+use Rattle.bitvector.specs.declared.Made.the-variants as M
+use Rattle.laws.specs.Counting.{one, count}
+use Rattle.laws.specs.Bits.{bitAt, has}
+use Rattle.mixer.specs.Mixer.{mixed}
+use Rattle.mixer.specs.Position.{position}
+use Rattle.mphf.specs.Index.{Stores, noHead}
+use Rattle.mphf.specs.Build.{builtOf, buildCall}
+use Rattle.mphf.specs.Lookup.{answerOf, lookupCall}
+use Rattle.mphf.specs.declared.fitting.Head.{Head}
+use Rattle.mphf.specs.declared.building.Built.{Built}
+use Rattle.mphf.specs.declared.finding.Found.{Found}
+use Rattle.mphf.specs.declared.finding.Found.the-variants as F
+use Rattle.mphf.specs.declared.finding.Place.{Place}
+use Rattle.demands.specs.Inputs.{two, three, lentThree, threeBuilt, threeLeft, pairBuilt, pairLeft, secondPlace}
+use Rattle.demands.proofs.OneAnswer.{build-once, lookup-once}
+use Rattle.demands.proofs.Worked.{three-built, second-found}
+
+-- ---- builds, at three ids of which two share their position in level 0
+
+module _ (a : Built) (t : Stores) (meets : builtOf (a .outcome) (a .head) t ≡ buildCall two three lentThree) where
+  -- the whole outcome is decided
+  pub three-only : (a ≡ threeBuilt) × (t ≡ threeLeft)
+  three-only = build-once two three lentThree a threeBuilt t threeLeft meets three-built
+
+  -- a build that only refuses
+  pub not-refused : (r : Refusal) → a .outcome ≡ M.Refused r → ⊥
+  not-refused r e =
+      let d = three-only .0 in
+      let z : _≡_ {A = ℕ} 0 1 = cc in
+      omega arith
+
+  -- one that returns an empty head
+  pub not-empty : a .head ≡ noHead → ⊥
+  not-empty e =
+      let z : _≡_ {A = ℕ} 0 3 = sym (ap (λ (h : Head). h .count) e) ∙ ap (λ (b : Built). b .head .count) (three-only .0) in
+      omega arith
+
+  -- one that writes nothing
+  pub not-idle : t ≡ lentThree → ⊥
+  not-idle e =
+      let z : _≡_ {A = ℕ} 0 (2 ^ 5) = ap (λ (s : Stores). getD (s .words) 3 0) (sym e ∙ three-only .1) in
+      omega arith
+
+  -- one that places every id in level 0, whatever it makes up for later levels
+  pub not-all-in-0 : ((x : ℕ) → 0 < count x three → has (t .words) (position 0 255 x) ≡ true) → ⊥
+  unfolding has bitAt position mixed
+  not-all-in-0 all =
+      let z : _≡_ {A = ℕ} 0 1 = ap one (rw (three-only .1) at (all 1 (lit< tt))) in
+      omega arith
+
+-- ---- lookups, in the index of two ids
+
+module _ (f : ℕ → Found) (meets : (x : ℕ) → answerOf (f x) ≡ lookupCall (pairBuilt .head) (pairLeft .words) (pairLeft .samples) x) where
+  -- a lookup that says no row but 0
+  pub not-all-first : ((x : ℕ) (p : Place) → f x ≡ F.Row p → p .row ≡ 0) → ⊥
+  not-all-first none-else =
+      let d = lookup-once (pairBuilt .head) (pairLeft .words) (pairLeft .samples) 2 (f 2) (F.Row secondPlace) (meets 2) second-found in
+      omega (arith, none-else 2 secondPlace d)
