@@ -1,3 +1,4 @@
 pub mod OneAnswer
 pub mod Worked
+pub mod Twice
 pub mod ShutOut

@@ -1,18 +1,20 @@
 -- Programs that the promises shut out. Assumes nothing.
 use mathlib.Core.Path.{_≡_, sym, ap, _∙_}
 use mathlib.Core.Bool.{true}
-use Prim.Native.Nat.{ℕ, _^_, _<_}
+use mathlib.Core.List.{[], _∷_}
+use Prim.Native.Nat.{ℕ, _^_, _≤_, _<_}
 use native.Mathlib.Omega.{arith}
 use lib.Dec.{lit<}
-use lib.ListN.{getD}
+use lib.ListN.{length, getD}
 use Rattle.refusal.specs.declared.Refusal.{Refusal}
+use Rattle.refusal.specs.declared.Refusal.the-variants.{NoRoomForLevel, IdsRemain}
 use Rattle.bitvector.specs.declared.Made.the-variants as M
 use Rattle.laws.specs.Counting.{one, count}
 use Rattle.laws.specs.Bits.{bitAt, has}
 use Rattle.mixer.specs.Mixer.{mixed}
 use Rattle.mixer.specs.Position.{position}
 use Rattle.mphf.specs.Index.{Stores, noHead}
-use Rattle.mphf.specs.Build.{builtOf, buildCall}
+use Rattle.mphf.specs.Build.{BuildEnd, builtOf, buildCall}
 use Rattle.mphf.specs.Lookup.{answerOf, lookupCall}
 use Rattle.mphf.specs.declared.fitting.Head.{Head}
 use Rattle.mphf.specs.declared.building.Built.{Built}
@@ -22,6 +24,7 @@ use Rattle.mphf.specs.declared.finding.Place.{Place}
 use Rattle.demands.specs.Inputs.{two, three, lentThree, threeBuilt, threeLeft, pairBuilt, pairLeft, secondPlace}
 use Rattle.demands.proofs.OneAnswer.{build-once, lookup-once}
 use Rattle.demands.proofs.Worked.{three-built, second-found}
+use Rattle.demands.proofs.Twice.{twice-left, twice-full}
 
 -- ---- builds, at three ids of which two share their position in level 0
 
@@ -55,6 +58,19 @@ module _ (a : Built) (t : Stores) (meets : builtOf (a .outcome) (a .head) t ≡ 
   not-all-in-0 all =
       let z : _≡_ {A = ℕ} 0 1 = ap one (rw (three-only .1) at (all 1 (lit< tt))) in
       omega arith
+
+-- ---- builds, at any id given twice
+
+module _ (x : ℕ) (s : Stores) (in-collide : 4 ≤ length (s .collide)) (in-rest : 2 ≤ length (s .rest)) (in-samples : length (s .samples) ≡ 100) where
+  -- one that makes up the level of refusal 5
+  pub not-other-level : length (s .words) ≡ 399 → (i : ℕ) (head : Head) (t : Stores)
+      → builtOf (M.Refused (NoRoomForLevel i)) head t ≡ buildCall two (x ∷ x ∷ []) s → i ≡ 99
+  not-other-level h i head t e = ap (λ (y : BuildEnd). y .value) (e ∙ twice-full x s in-collide in-rest h in-samples)
+
+  -- one that makes up how many ids remain in refusal 6
+  pub not-other-count : length (s .words) ≡ 400 → (n : ℕ) (head : Head) (t : Stores)
+      → builtOf (M.Refused (IdsRemain n)) head t ≡ buildCall two (x ∷ x ∷ []) s → n ≡ 2
+  not-other-count h n head t e = ap (λ (y : BuildEnd). y .value) (e ∙ twice-left x s in-collide in-rest h in-samples)
 
 -- ---- lookups, in the index of two ids
 
