@@ -2,3 +2,4 @@ pub mod OneAnswer
 pub mod Worked
 pub mod Twice
 pub mod ShutOut
+pub mod Rows
