@@ -1,5 +1,5 @@
 -- Programs that the promises shut out. Assumes nothing.
-use mathlib.Core.Path.{_≡_, sym, ap, _∙_}
+use mathlib.Core.Path.{_≡_, sym, ap, ap₂, _∙_}
 use mathlib.Core.Bool.{true}
 use mathlib.Core.List.{[], _∷_}
 use Prim.Native.Nat.{ℕ, _^_, _≤_, _<_}
@@ -21,9 +21,9 @@ use Rattle.mphf.specs.declared.building.Built.{Built}
 use Rattle.mphf.specs.declared.finding.Found.{Found}
 use Rattle.mphf.specs.declared.finding.Found.the-variants as F
 use Rattle.mphf.specs.declared.finding.Place.{Place}
-use Rattle.demands.specs.Inputs.{two, three, lentThree, threeBuilt, threeLeft, pairBuilt, pairLeft, secondPlace}
+use Rattle.demands.specs.Inputs.{two, three, lentThree, threeBuilt, threeLeft, pair, lentPair, pairBuilt, pairLeft, firstPlace, secondPlace}
 use Rattle.demands.proofs.OneAnswer.{build-once, lookup-once}
-use Rattle.demands.proofs.Worked.{three-built, second-found}
+use Rattle.demands.proofs.Worked.{three-built, pair-built, first-found, second-found}
 use Rattle.demands.proofs.Twice.{twice-left, twice-full}
 
 -- ---- builds, at three ids of which two share their position in level 0
@@ -74,9 +74,18 @@ module _ (x : ℕ) (s : Stores) (in-collide : 4 ≤ length (s .collide)) (in-res
 
 -- ---- lookups, in the index of two ids
 
-module _ (f : ℕ → Found) (meets : (x : ℕ) → answerOf (f x) ≡ lookupCall (pairBuilt .head) (pairLeft .words) (pairLeft .samples) x) where
-  -- a lookup that says no row but 0
-  pub not-all-first : ((x : ℕ) (p : Place) → f x ≡ F.Row p → p .row ≡ 0) → ⊥
-  not-all-first none-else =
-      let d = lookup-once (pairBuilt .head) (pairLeft .words) (pairLeft .samples) 2 (f 2) (F.Row secondPlace) (meets 2) second-found in
-      omega (arith, none-else 2 secondPlace d)
+module _ (a : Built) (t : Stores) (built : builtOf (a .outcome) (a .head) t ≡ buildCall two pair lentPair) where
+  module _ (f : ℕ → Found) (meets : (x : ℕ) → answerOf (f x) ≡ lookupCall (a .head) (t .words) (t .samples) x) where
+    -- their rows are 0 and 1
+    pub pair-rows : (f 1 ≡ F.Row firstPlace) × (f 2 ≡ F.Row secondPlace)
+    pair-rows = (only 1 firstPlace first-found, only 2 secondPlace second-found)
+      where
+        only : (x : ℕ) (p : Place) → answerOf (F.Row p) ≡ lookupCall (pairBuilt .head) (pairLeft .words) (pairLeft .samples) x → f x ≡ F.Row p
+        only x p e =
+            let index = build-once two pair lentPair pairBuilt a pairLeft t pair-built built in
+            let same = ap₂ (λ (b : Built) (s : Stores). lookupCall (b .head) (s .words) (s .samples) x) (index .0) (index .1) in
+            lookup-once (a .head) (t .words) (t .samples) x (f x) (F.Row p) (meets x) (e ∙ same)
+
+    -- a lookup that always says row 0 or none: one that says no other row
+    pub not-all-first : ((x : ℕ) (p : Place) → f x ≡ F.Row p → p .row ≡ 0) → ⊥
+    not-all-first none-else = omega (arith, none-else 2 secondPlace (pair-rows .1))
