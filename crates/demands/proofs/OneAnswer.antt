@@ -1,16 +1,10 @@
 -- No room for a second answer, module 6: two outcomes that meet a call's promise are equal, the answer and every word of every store. bitvector's
 -- proofs/Unique.antt says the same of module 1. Assumes nothing.
 use mathlib.Core.Path.{_≡_, refl, sym, ap, _∙_}
-use mathlib.Core.Bool.{cond}
 use mathlib.Core.List.{List}
 use Prim.Native.Nat.{ℕ}
-use native.Mathlib.Omega.{arith}
-use borrow.Author.Tests.{ne-eqb}
-use lib.Dec.{eqb}
 use lib.Ieee.{Float}
-use Rattle.refusal.specs.Table.{numberOf, valueOf}
-use Rattle.refusal.specs.declared.Refusal.{Refusal}
-use Rattle.refusal.proofs.Apart.{caseOf, case-back, number-pos}
+use Rattle.refusal.proofs.Apart.{caseOf, case-back, answerBack, refused-back}
 use Rattle.bitvector.specs.declared.Made.{Made}
 use Rattle.bitvector.specs.declared.Made.the-variants as M
 use Rattle.mphf.specs.Index.{Stores}
@@ -22,13 +16,10 @@ use Rattle.mphf.specs.declared.building.Built.{Built}
 use Rattle.mphf.specs.declared.finding.Found.{Found}
 use Rattle.mphf.specs.declared.finding.Found.the-variants as F
 
--- ---- from a refusal number and its value the answer can be read back
+-- ---- the answers can be read back
 
 abbrev madeBack : ℕ → ℕ → Made
-madeBack number value = cond (eqb number 0) M.Done (M.Refused (caseOf number value))
-
-refused-back : (r : Refusal) → madeBack (numberOf r) (valueOf r) ≡ M.Refused r
-refused-back r = rw (ne-eqb (numberOf r) 0 (λ (e : numberOf r ≡ 0). omega (arith, number-pos r)), case-back r)
+madeBack number value = answerBack M.Done M.Refused number value
 
 abbrev foundBack : Answer → Found
 foundBack (found p) = F.Row (record { row = p .row; level = p .level; position = p .position })
@@ -50,7 +41,7 @@ build-once gamma ids s a b t u e f = (
 
     back : (m : Made) (head : Head) (s : Stores) → builtBack (builtOf m head s) ≡ record { outcome = m; head = head }
     back M.Done head s = refl
-    back (M.Refused r) head s = rw (refused-back r)
+    back (M.Refused r) head s = rw (refused-back M.Done M.Refused r)
 
     same : (m : Made) (head : Head) (s : Stores) → builtOf m head s .stores ≡ s
     same M.Done head s = refl
@@ -79,7 +70,7 @@ rows-once head ws ss ids rows marks a b rs us ms vs e f = (
 
     back : (m : Made) (rs ms : List ℕ) → listingBack (listing m rs ms) ≡ m
     back M.Done rs ms = refl
-    back (M.Refused r) rs ms = refused-back r
+    back (M.Refused r) rs ms = refused-back M.Done M.Refused r
 
     rows-same : (m : Made) (rs ms : List ℕ) → listing m rs ms .rows ≡ rs
     rows-same M.Done rs ms = refl
