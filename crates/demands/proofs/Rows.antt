@@ -11,7 +11,7 @@ use Rattle.mixer.specs.Position.{folded, placed}
 use Rattle.ranks.specs.Ranks.{firstSamples, samplesOf, onesFrom}
 use Rattle.rule.specs.Rule.{left, runFrom}
 use Rattle.sizes.specs.Sizes.{rounded, wholeOf, sizeFor, samplesFor}
-use Rattle.mphf.specs.Index.{Stores, stores, zeros}
+use Rattle.mphf.specs.Index.{stores, zeros}
 use Rattle.mphf.specs.Build.{buildChecks, buildCall}
 use Rattle.mphf.specs.Lookup.{Answer, found, nothing, refused, rowAnswer}
 use Rattle.demands.specs.Inputs.{oneAndHalf, two}

@@ -1,4 +1,4 @@
--- Programs that the promises shut out. Assumes nothing.
+-- Programs that 01 wants shut out: what they leave behind does not meet the promise, at a small input. Assumes nothing.
 use mathlib.Core.Path.{_≡_, sym, ap, ap₂, _∙_}
 use mathlib.Core.Bool.{true}
 use mathlib.Core.List.{[], _∷_}
@@ -14,14 +14,14 @@ use Rattle.laws.specs.Bits.{bitAt, has}
 use Rattle.mixer.specs.Mixer.{mixed}
 use Rattle.mixer.specs.Position.{position}
 use Rattle.mphf.specs.Index.{Stores, noHead}
-use Rattle.mphf.specs.Build.{BuildEnd, builtOf, buildCall}
+use Rattle.mphf.specs.Build.{builtOf, cleared, buildCall}
 use Rattle.mphf.specs.Lookup.{answerOf, lookupCall}
 use Rattle.mphf.specs.declared.fitting.Head.{Head}
 use Rattle.mphf.specs.declared.building.Built.{Built}
 use Rattle.mphf.specs.declared.finding.Found.{Found}
 use Rattle.mphf.specs.declared.finding.Found.the-variants as F
 use Rattle.mphf.specs.declared.finding.Place.{Place}
-use Rattle.demands.specs.Inputs.{two, three, lentThree, threeBuilt, threeLeft, pair, lentPair, pairBuilt, pairLeft, firstPlace, secondPlace}
+use Rattle.demands.specs.Inputs.{two, three, lentThree, threeBuilt, threeLeft, pair, lentPair, pairBuilt, pairLeft, firstPlace, secondPlace, refusedWith}
 use Rattle.demands.proofs.OneAnswer.{build-once, lookup-once}
 use Rattle.demands.proofs.Worked.{three-built, pair-built, first-found, second-found}
 use Rattle.demands.proofs.Twice.{twice-left, twice-full}
@@ -62,15 +62,25 @@ module _ (a : Built) (t : Stores) (meets : builtOf (a .outcome) (a .head) t ≡ 
 -- ---- builds, at any id given twice
 
 module _ (x : ℕ) (s : Stores) (in-collide : 4 ≤ length (s .collide)) (in-rest : 2 ≤ length (s .rest)) (in-samples : length (s .samples) ≡ 100) where
-  -- one that makes up the level of refusal 5
-  pub not-other-level : length (s .words) ≡ 399 → (i : ℕ) (head : Head) (t : Stores)
-      → builtOf (M.Refused (NoRoomForLevel i)) head t ≡ buildCall two (x ∷ x ∷ []) s → i ≡ 99
-  not-other-level h i head t e = ap (λ (y : BuildEnd). y .value) (e ∙ twice-full x s in-collide in-rest h in-samples)
+  module _ (a : Built) (t : Stores) (meets : builtOf (a .outcome) (a .head) t ≡ buildCall two (x ∷ x ∷ []) s) where
+    -- the whole outcome is decided, in 399 words and in 400
+    pub full-only : length (s .words) ≡ 399 → (a ≡ refusedWith (NoRoomForLevel 99)) × (t ≡ cleared s)
+    full-only h = build-once two (x ∷ x ∷ []) s a (refusedWith (NoRoomForLevel 99)) t (cleared s) meets (sym (twice-full x s in-collide in-rest h in-samples))
 
-  -- one that makes up how many ids remain in refusal 6
-  pub not-other-count : length (s .words) ≡ 400 → (n : ℕ) (head : Head) (t : Stores)
-      → builtOf (M.Refused (IdsRemain n)) head t ≡ buildCall two (x ∷ x ∷ []) s → n ≡ 2
-  not-other-count h n head t e = ap (λ (y : BuildEnd). y .value) (e ∙ twice-left x s in-collide in-rest h in-samples)
+    pub left-only : length (s .words) ≡ 400 → (a ≡ refusedWith (IdsRemain 2)) × (t ≡ cleared s)
+    left-only h = build-once two (x ∷ x ∷ []) s a (refusedWith (IdsRemain 2)) t (cleared s) meets (sym (twice-left x s in-collide in-rest h in-samples))
+
+    -- a build that makes up the level in refusal 5
+    pub not-other-level : length (s .words) ≡ 399 → (i : ℕ) → a .outcome ≡ M.Refused (NoRoomForLevel i) → i ≡ 99
+    not-other-level h i e =
+        let d = full-only h .0 in
+        cc
+
+    -- one that makes up how many ids remain in refusal 6
+    pub not-other-count : length (s .words) ≡ 400 → (n : ℕ) → a .outcome ≡ M.Refused (IdsRemain n) → n ≡ 2
+    not-other-count h n e =
+        let d = left-only h .0 in
+        cc
 
 -- ---- lookups, in the index of two ids
 

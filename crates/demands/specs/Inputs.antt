@@ -3,8 +3,9 @@ use mathlib.Core.List.{List, [], _∷_}
 use Prim.Native.Nat.{ℕ, _^_}
 use lib.Ieee.{Float, binary64, ofBits}
 use Rattle.bounds.specs.Bounds.{maxLevels}
-use Rattle.bitvector.specs.declared.Made.the-variants.{Done}
-use Rattle.mphf.specs.Index.{Stores, stores, zeros, filled}
+use Rattle.bitvector.specs.declared.Made.the-variants.{Done, Refused}
+use Rattle.refusal.specs.declared.Refusal.{Refusal}
+use Rattle.mphf.specs.Index.{Stores, stores, zeros, filled, noHead}
 use Rattle.mphf.specs.declared.building.Built.{Built}
 use Rattle.mphf.specs.declared.finding.Place.{Place}
 
@@ -53,3 +54,8 @@ firstPlace = record { row = 0; level = 0; position = 139 }
 
 abbrev pub secondPlace : Place
 secondPlace = record { row = 1; level = 0; position = 197 }
+
+-- ---- refused builds
+
+abbrev pub refusedWith : Refusal → Built
+refusedWith why = record { outcome = Refused why; head = noHead }
