@@ -1,27 +1,18 @@
 -- Worked examples of the calls, both sides of each line: one table of tests, which antt computes. Assumes nothing.
 use Prim.Native.Nat.{ℕ, _+_, _-_, _^_}
-use mathlib.Core.Bool.{Bool, true, false, _&&_}
+use mathlib.Core.Bool.{Bool, _&&_}
 use mathlib.Core.List.{List, [], _∷_}
 use lib.Dec.{T, eqb}
 use Rattle.bounds.specs.Bounds.{maxBits}
 use Rattle.laws.specs.Bits.{bitAt, has, packed}
+use Rattle.laws.specs.Tables.{all, equal}
 use Rattle.bitvector.specs.Sets.{stored}
 use Rattle.bitvector.specs.Calls.{Outcome, roomy, sound, newCall, onesCall, isEmptyCall, lenCall}
 use Rattle.bitvector.specs.Calls.{containsCall, insertCall, removeCall, insertAllCall, eqLeftCall, membersCall}
 
-abbrev same : List ℕ → List ℕ → Bool
-same [] [] = true
-same [] (y ∷ ys) = false
-same (x ∷ xs) [] = false
-same (x ∷ xs) (y ∷ ys) = eqb x y && same xs ys
-
 -- an outcome is this refusal number, this value and this store
 abbrev is : Outcome → ℕ → ℕ → List ℕ → Bool
-is x refusal value store = eqb (x .refusal) refusal && (eqb (x .value) value && same (x .store) store)
-
-abbrev all : List Bool → Bool
-all [] = true
-all (row ∷ rows) = row && all rows
+is x refusal value store = eqb (x .refusal) refusal && (eqb (x .value) value && equal (x .store) store)
 
 rows : T (all
     (is (newCall (maxBits + 1) []) 10 0 []

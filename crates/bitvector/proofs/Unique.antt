@@ -3,12 +3,8 @@ use mathlib.Core.Path.{_≡_, refl, sym, ap, _∙_}
 use mathlib.Core.Bool.{cond}
 use mathlib.Core.List.{List}
 use Prim.Native.Nat.{ℕ}
-use native.Mathlib.Omega.{arith}
-use borrow.Author.Tests.{ne-eqb}
 use lib.Dec.{eqb}
-use Rattle.refusal.specs.Table.{numberOf}
-use Rattle.refusal.proofs.Apart.{caseOf, case-back, number-pos}
-use Rattle.refusal.specs.declared.Refusal.{Refusal}
+use Rattle.refusal.proofs.Apart.{answerBack, refused-back}
 use Rattle.bitvector.specs.declared.Made.{Made}
 use Rattle.bitvector.specs.declared.Made.the-variants as M
 use Rattle.bitvector.specs.declared.Said.{Said}
@@ -30,26 +26,22 @@ once A f back answer store x a b us vs e g = (
   sym (store a us) ∙ ap (λ (y : Outcome). y .store) (e ∙ sym g) ∙ store b vs,
 )
 
--- a refusal has a number that is not 0
-refused : {A : Type 0} (r : Refusal) (a b : A) → cond (eqb (numberOf r) 0) a b ≡ b
-refused r a b = rw (ne-eqb (numberOf r) 0 (λ (e : numberOf r ≡ 0). omega (arith, number-pos r)))
-
 abbrev madeBack : Outcome → Made
-madeBack x = cond (eqb (x .refusal) 0) M.Done (M.Refused (caseOf (x .refusal) (x .value)))
+madeBack x = answerBack M.Done M.Refused (x .refusal) (x .value)
 
 made-once : (x : Outcome) → Once Made made x
 made-once = once Made made madeBack answer store
   where
     answer : (a : Made) (ws : List ℕ) → madeBack (made a ws) ≡ a
     answer M.Done ws = refl
-    answer (M.Refused r) ws = refused r _ _ ∙ ap M.Refused (case-back r)
+    answer (M.Refused r) ws = refused-back _ M.Refused r
 
     store : (a : Made) (ws : List ℕ) → made a ws .store ≡ ws
     store M.Done ws = refl
     store (M.Refused r) ws = refl
 
 abbrev saidBack : Outcome → Said
-saidBack x = cond (eqb (x .refusal) 0) (cond (eqb (x .value) 0) S.No S.Yes) (S.Refused (caseOf (x .refusal) (x .value)))
+saidBack x = answerBack (cond (eqb (x .value) 0) S.No S.Yes) S.Refused (x .refusal) (x .value)
 
 said-once : (x : Outcome) → Once Said said x
 said-once = once Said said saidBack answer store
@@ -57,7 +49,7 @@ said-once = once Said said saidBack answer store
     answer : (a : Said) (ws : List ℕ) → saidBack (said a ws) ≡ a
     answer S.Yes ws = refl
     answer S.No ws = refl
-    answer (S.Refused r) ws = refused r _ _ ∙ ap S.Refused (case-back r)
+    answer (S.Refused r) ws = refused-back _ S.Refused r
 
     store : (a : Said) (ws : List ℕ) → said a ws .store ≡ ws
     store S.Yes ws = refl
@@ -65,14 +57,14 @@ said-once = once Said said saidBack answer store
     store (S.Refused r) ws = refl
 
 abbrev countedBack : Outcome → Counted
-countedBack x = cond (eqb (x .refusal) 0) (C.Count (x .value)) (C.Refused (caseOf (x .refusal) (x .value)))
+countedBack x = answerBack (C.Count (x .value)) C.Refused (x .refusal) (x .value)
 
 counted-once : (x : Outcome) → Once Counted counted x
 counted-once = once Counted counted countedBack answer store
   where
     answer : (a : Counted) (ws : List ℕ) → countedBack (counted a ws) ≡ a
     answer (C.Count n) ws = refl
-    answer (C.Refused r) ws = refused r _ _ ∙ ap C.Refused (case-back r)
+    answer (C.Refused r) ws = refused-back _ C.Refused r
 
     store : (a : Counted) (ws : List ℕ) → counted a ws .store ≡ ws
     store (C.Count n) ws = refl

@@ -3,3 +3,9 @@ pub mod Order
 pub mod Room
 pub mod Demand3
 pub mod Premises
+pub mod OneAnswer
+pub mod Worked
+pub mod Numbers
+pub mod Twice
+pub mod ShutOut
+pub mod Rows

@@ -1,38 +1,33 @@
 -- What the theorems of this crate ask for can be had, and both sides of what they tell apart are there: gamma 2.0, two ids, and the stores of 01's examples.
 -- Assumes nothing.
-use mathlib.Core.Path.{_≡_, refl, sym, ap, _∙_}
-use mathlib.Core.Bool.{false}
+use mathlib.Core.Path.{_≡_, refl}
 use mathlib.Core.List.{List, [], _∷_, List·Permᴰ, List·Permᴰ·swap}
-use Prim.Native.Nat.{ℕ, zero, suc, _*_, _≤_, _<_}
-use native.Mathlib.Nat.{le-trans, le-of-eq, lt-of-lt-of-le}
-use native.Mathlib.Omega.{arith}
-use lib.Dec.{lit<, lit≤}
-use lib.Ieee.{Float, binary64, ofBits, lt}
-use lib.ListN.{length, replicate, length-replicate}
+use Prim.Native.Nat.{ℕ, _≤_}
+use lib.Dec.{lit≤}
+use lib.Ieee.{Float, ofBits, lt}
+use lib.ListN.{replicate, length-replicate}
 use Rattle.bitvector.specs.declared.Made.the-variants as M
-use Rattle.bounds.specs.Bounds.{maxLevels}
-use Rattle.demands.specs.Demands.{InBounds, RoomEnough, roomIn, listedAs, Indexed, SameRoom, SameEnd, FromWords}
-use Rattle.demands.proofs.Demand3.{demand3, returned, samples-from-words}
+use Rattle.demands.specs.Demands.{InBounds, RoomEnough, listedAs, Indexed, SameRoom, SameEnd, FromWords}
+use Rattle.demands.proofs.Demand3.{returned, samples-from-words}
 use Rattle.demands.proofs.Order.{build-permuted}
+use Rattle.demands.specs.Inputs.{two}
 use Rattle.demands.proofs.Room.{room-always, endings}
-use Rattle.laws.specs.Bits.{wordsFor, has, bitAt, packed}
-use Rattle.laws.proofs.Counts.{count-le-length, perm-same}
+use Rattle.demands.proofs.Twice.{twice-left, twice-full}
+use Rattle.laws.specs.Bits.{has, bitAt, packed}
+use Rattle.laws.proofs.Counts.{perm-same}
 use Rattle.mixer.specs.Mixer.{mixed}
 use Rattle.mixer.specs.Position.{position}
 use Rattle.mphf.specs.Build.{BuildEnd, builtOf, refusedRun, buildChecks, buildCall}
 use Rattle.mphf.specs.Index.{Stores, stores, zeros, ruleOf, indexWords, indexSamples, indexSizes}
-use Rattle.mphf.specs.Layout.{samplesOfSize, fit}
+use Rattle.mphf.specs.Layout.{fit}
 use Rattle.mphf.specs.Lookup.{found, nothing, rowAnswer, findIn, lookupCall}
 use Rattle.mphf.specs.Rows.{rowsCall}
 use Rattle.ranks.specs.Ranks.{firstSamples, onesFrom}
-use Rattle.rule.specs.Demand.{Reaches}
-use Rattle.rule.specs.Rule.{Room, left, span, start, fits, runFrom, first}
-use Rattle.rule.proofs.Levels.{left-fewer, twice}
-use Rattle.rule.proofs.Run.{room-enough, words-short}
+use Rattle.rule.specs.Rule.{left, runFrom, first}
 use Rattle.sizes.specs.Sizes.{sizeFor, wholeOf, rounded}
 
 abbrev gamma : Float
-gamma = ofBits binary64 0x4000_0000_0000_0000
+gamma = two
 
 -- room for a hundred levels of the least size, and work stores for two ids
 abbrev room : Stores
@@ -99,55 +94,15 @@ foreign-row = refl
 
 -- ---- one id twice is refused: with 6 in this room, giving 2, and with 5 where there is a word less, giving level 99
 
-both-left : (i : ℕ) → length (left (ruleOf gamma) double i) ≡ 2
-unfolding left
-both-left i =
-    omega (
-      arith,
-      twice (ruleOf gamma) double 7 (lit≤ tt) i,
-      count-le-length 7 (left (ruleOf gamma) double i),
-      left-fewer (ruleOf gamma) double 0 i (omega arith),
-    )
-
 refused-6 : buildCall gamma double room ≡ refusedRun 6 2 room
-refused-6 =
-    demand3 gamma double room .refused double-bounds double-room .as-6 (omega (arith, both-left maxLevels))
-    ∙ ap (λ (n : ℕ). refusedRun 6 n room) (both-left maxLevels)
+refused-6 = twice-left 7 room (lit≤ tt) (lit≤ tt) refl refl
 
 -- the same stores with a word less: room for 99 levels of 4 words, and not for the last
 abbrev less : Stores
 less = stores (zeros 399) (zeros 100) (zeros 4) (zeros 2)
 
-less-bounds : InBounds gamma double less
-less-bounds = record { allowed = double-bounds .allowed; few-ids = lit≤ tt; rest-long = lit≤ tt; collide-long = double-bounds .collide-long }
-
-abbrev lessRoom : Room
-lessRoom = roomIn less
-
-size-is : (i : ℕ) → span (ruleOf gamma) double i ≡ 255
-unfolding ofBits sizeFor wholeOf rounded
-size-is i = rw (both-left i)
-
-words-taken : (i : ℕ) → start wordsFor (span (ruleOf gamma) double) i ≡ 4 * i
-words-taken zero = refl
-words-taken (suc i) = omega (arith, words-taken i, size-is i)
-
-samples-taken : (i : ℕ) → start samplesOfSize (span (ruleOf gamma) double) i ≡ i
-samples-taken zero = refl
-samples-taken (suc i) = omega (arith, samples-taken i, size-is i)
-
 refused-5 : buildCall gamma double less ≡ refusedRun 5 99 less
-refused-5 = endings gamma double less less-bounds .as-5 99 .1 (lit< tt, reaches, full)
-  where
-    reaches : Reaches (ruleOf gamma) lessRoom double 99
-    reaches = record {
-      room-for =
-          room-enough (ruleOf gamma) lessRoom double 99 (le-trans (le-of-eq (words-taken 99)) (lit≤ tt)) (le-trans (le-of-eq (samples-taken 99)) (lit≤ tt));
-      more-after = λ j h. omega (arith, both-left (suc j));
-    }
-
-    full : fits (ruleOf gamma) lessRoom double 100 ≡ false
-    full = words-short (ruleOf gamma) lessRoom double 100 (lt-of-lt-of-le (lit< tt) (le-of-eq (sym (words-taken 100))))
+refused-5 = twice-full 7 less (lit≤ tt) (lit≤ tt) refl refl
 
 -- ---- the other order, in stores that held something
 

@@ -1,2 +1,2 @@
-// What follows from the promises of the public calls, in specs/ and proofs/: demand 3, that the order of the ids does not matter, and that samples come from
-// the level words alone. It has no code.
+// What the promises of the public calls come to, in specs/ and proofs/: demand 3; that the order of the ids does not matter; that samples come from the level
+// words alone; that there is no second answer; which programs are shut out; and 01's worked examples. It has no code.

@@ -1,53 +1,22 @@
--- What the promise of `rows` says: no room for a second answer, and after a call that is not refused, at each row the id that lookup sends there.
--- Assumes nothing.
-use mathlib.Core.Path.{_≡_, refl, sym, ap, _∙_}
-use mathlib.Core.Bool.{Bool, true, false, cond, _&&_}
+-- What the promise of `rows` says: after a call that is not refused, at each row stands the id that lookup sends there. Assumes nothing.
+use mathlib.Core.Path.{_≡_, refl, ap, _∙_}
+use mathlib.Core.Bool.{Bool, true, false, _&&_}
 use mathlib.Core.List.{List}
 use mathlib.Core.Option.{Option, some}
 use Prim.Native.Nat.{ℕ, _≤_, _<_}
 use native.Mathlib.Omega.{arith}
-use borrow.Author.Tests.{eqb-true, leb-true, ne-eqb}
+use borrow.Author.Tests.{eqb-true, leb-true}
 use lib.Dec.{eqb, leb, lit<}
 use lib.ListN.{length, getD, drop, List·getD-append}
 use Rattle.laws.specs.Bits.{wordsFor}
 use Rattle.laws.proofs.Cases.{both}
-use Rattle.refusal.specs.Table.{numberOf}
-use Rattle.refusal.proofs.Apart.{caseOf, case-back, number-pos}
-use Rattle.bitvector.specs.declared.Made.{Made}
-use Rattle.bitvector.specs.declared.Made.the-variants as M
 use Rattle.mphf.specs.Layout.{fit}
 use Rattle.mphf.specs.Lookup.{lookupCall}
-use Rattle.mphf.specs.Rows.{rowIn, apart, listed, Listing, listing, check, rowsBy, rowsCall}
+use Rattle.mphf.specs.Rows.{rowIn, apart, listed, Listing, check, rowsBy, rowsCall}
 use Rattle.mphf.specs.declared.fitting.Head.{Head}
 use Rattle.mphf.proofs.Finds.{lookup-fit}
 use Rattle.mphf.proofs.Sent.{found-below}
 use Rattle.mphf.proofs.Lists.{listed-length, listed-row}
-
--- ---- one answer: two outcomes that meet the promise are equal, the answer and every word of both stores
-
-abbrev answerIn : Listing → Made
-answerIn x = cond (eqb (x .refusal) 0) M.Done (M.Refused (caseOf (x .refusal) (x .value)))
-
-answer-back : (r : Made) (us vs : List ℕ) → answerIn (listing r us vs) ≡ r
-answer-back M.Done us vs = refl
-answer-back (M.Refused r) us vs = rw (ne-eqb (numberOf r) 0 (λ (e : numberOf r ≡ 0). omega (arith, number-pos r))) (ap M.Refused (case-back r))
-
-rows-back : (r : Made) (us vs : List ℕ) → listing r us vs .rows ≡ us
-rows-back M.Done us vs = refl
-rows-back (M.Refused r) us vs = refl
-
-marks-back : (r : Made) (us vs : List ℕ) → listing r us vs .marks ≡ vs
-marks-back M.Done us vs = refl
-marks-back (M.Refused r) us vs = refl
-
-pub rows-once : (x : Listing) (r s : Made) (us us′ vs vs′ : List ℕ) → listing r us vs ≡ x → listing s us′ vs′ ≡ x → (r ≡ s) × (us ≡ us′) × (vs ≡ vs′)
-rows-once x r s us us′ vs vs′ e f = (
-  sym (answer-back r us vs) ∙ ap answerIn (e ∙ sym f) ∙ answer-back s us′ vs′,
-  sym (rows-back r us vs) ∙ ap (λ (y : Listing). y .rows) (e ∙ sym f) ∙ rows-back s us′ vs′,
-  sym (marks-back r us vs) ∙ ap (λ (y : Listing). y .marks) (e ∙ sym f) ∙ marks-back s us′ vs′,
-)
-
--- ---- at each row the id that lookup sends there
 
 -- an outcome that is not refused has passed its checks
 check-passed : (test : Bool) (number : ℕ) (us vs : List ℕ) (next : Listing) → 0 < number → check test number us vs next .refusal ≡ 0 → test ≡ true

@@ -1,4 +1,3 @@
 pub mod Ones
 pub mod Samples
 pub mod ByRule
-pub mod Rows

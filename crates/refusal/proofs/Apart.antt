@@ -1,8 +1,11 @@
 -- The number and the value tell any two refusals apart: from them the case can be read back. Assumes nothing.
 use mathlib.Core.Path.{_≡_, refl, sym, ap₂, _∙_}
+use mathlib.Core.Bool.{cond}
 use mathlib.Core.List.{[], _∷_}
 use Prim.Native.Nat.{ℕ, _-_, _<_}
-use lib.Dec.{lit<}
+use native.Mathlib.Omega.{arith}
+use borrow.Author.Tests.{ne-eqb}
+use lib.Dec.{eqb, lit<}
 use lib.ListN.{getD}
 use Rattle.refusal.specs.Table.{numberOf, valueOf}
 use Rattle.refusal.specs.declared.Refusal.{Refusal}
@@ -49,3 +52,10 @@ number-pos BitOutside = lit< tt
 number-pos UnfitSet = lit< tt
 number-pos ShortOutput = lit< tt
 number-pos WrongIds = lit< tt
+
+-- any answer read back from its number and value: the refusal, or where the number is 0 what is answered else
+abbrev pub answerBack : {A : Type 0} → A → (Refusal → A) → ℕ → ℕ → A
+answerBack other refused n v = cond (eqb n 0) other (refused (caseOf n v))
+
+pub refused-back : {A : Type 0} (other : A) (refused : Refusal → A) (r : Refusal) → answerBack other refused (numberOf r) (valueOf r) ≡ refused r
+refused-back other refused r = rw (ne-eqb (numberOf r) 0 (λ (e : numberOf r ≡ 0). omega (arith, number-pos r)), case-back r)

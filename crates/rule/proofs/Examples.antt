@@ -1,27 +1,18 @@
 -- The rule at small sizes: one table of tests, which antt computes. Assumes nothing.
 use mathlib.Core.Path.{_≡_, refl}
 use Prim.Native.Nat.{ℕ, _+_, _/_, _%_, _^_}
-use mathlib.Core.Bool.{Bool, true, false, not, _&&_, _||_}
+use mathlib.Core.Bool.{Bool, not, _||_}
 use mathlib.Core.List.{List, [], _∷_}
 use mathlib.Core.Option.{Option, none, some}
 use native.Mathlib.Nat.{mod-lt}
 use native.Mathlib.Omega.{arith}
 use lib.Dec.{T, eqb, ltb, lit<}
+use Rattle.laws.specs.Tables.{all, equal}
 use Rattle.rule.specs.Rule.{Rule, left, span, bit, Room, Outcome, built, noRoom, idsLeft, runFrom, run, rowAt, sample, Place, first, find, rowList}
 use Rattle.rule.specs.Demand.{Sound, Perfect}
 use Rattle.rule.proofs.Demand.{demand3}
 
-abbrev all : List Bool → Bool
-all [] = true
-all (row ∷ rows) = row && all rows
-
--- two lists, two outcomes and two lookups are the same
-abbrev equal : List ℕ → List ℕ → Bool
-equal [] [] = true
-equal [] (y ∷ ys) = false
-equal (x ∷ xs) [] = false
-equal (x ∷ xs) (y ∷ ys) = eqb x y && equal xs ys
-
+-- two outcomes and two lookups are the same
 abbrev told : Outcome → List ℕ
 told (built n) = 0 ∷ n ∷ []
 told (noRoom i) = 1 ∷ i ∷ []
@@ -92,7 +83,7 @@ rows : T (all
     ∷ ends (run digits (room 6 1) [] 4) (noRoom 0)
     ∷ equal (shown (find digits [] 1 5)) []
     -- rows and samples of given bits
-    ∷ equal (rowAt wide few 0 3 ∷ rowAt wide few 0 64 ∷ rowAt wide few 0 200 ∷ rowAt wide few 1 64 ∷ []) (0 ∷ 1 ∷ 2 ∷ 4 ∷ [])
+    ∷ equal (rowAt wide few 1 3 ∷ rowAt wide few 1 64 ∷ rowAt wide few 1 200 ∷ []) (3 ∷ 4 ∷ 5 ∷ [])
     ∷ equal (sample wide many 0 0 ∷ sample wide many 0 1 ∷ sample wide many 1 1 ∷ []) (0 ∷ 512 ∷ 1088 ∷ [])
     ∷ equal (rowAt wide many 0 512 ∷ rowAt wide many 0 513 ∷ []) (512 ∷ 513 ∷ [])
     ∷ []))

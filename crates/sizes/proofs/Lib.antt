@@ -4,4 +4,3 @@ pub mod Sizes
 pub mod Product
 pub mod Pattern
 pub mod Floats
-pub mod Rows

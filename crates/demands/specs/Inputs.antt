@@ -1,0 +1,61 @@
+-- Small inputs at which the promises are worked out, and what they have to come to.
+use mathlib.Core.List.{List, [], _∷_}
+use Prim.Native.Nat.{ℕ, _^_}
+use lib.Ieee.{Float, binary64, ofBits}
+use Rattle.bounds.specs.Bounds.{maxLevels}
+use Rattle.bitvector.specs.declared.Made.the-variants.{Done, Refused}
+use Rattle.refusal.specs.declared.Refusal.{Refusal}
+use Rattle.mphf.specs.Index.{Stores, stores, zeros, filled, noHead}
+use Rattle.mphf.specs.declared.building.Built.{Built}
+use Rattle.mphf.specs.declared.finding.Place.{Place}
+
+-- the f64s 1.5 and 2.0
+abbrev pub oneAndHalf : Float
+oneAndHalf = ofBits binary64 0x3FF8_0000_0000_0000
+
+abbrev pub two : Float
+two = ofBits binary64 0x4000_0000_0000_0000
+
+-- ---- three ids at gamma 2.0
+
+-- In level 0, of 255 bits, 2 has the position 197, and 1 and 3 share 139. In level 1, of 255 bits too, 3 has the position 58 and 1 has 191.
+abbrev pub three : List ℕ
+three = 1 ∷ 2 ∷ 3 ∷ []
+
+-- stores of 0 that are just long enough
+abbrev pub lentThree : Stores
+lentThree = stores (zeros 8) (zeros 2) (zeros 4) (zeros 3)
+
+-- the answer, and the stores after it
+abbrev pub threeBuilt : Built
+threeBuilt = record { outcome = Done; head = record { count = 3; levels = 2; sizes = filled (255 ∷ 255 ∷ []) maxLevels } }
+
+abbrev pub threeLeft : Stores
+threeLeft = stores (0 ∷ 0 ∷ 0 ∷ 2 ^ 5 ∷ 2 ^ 58 ∷ 0 ∷ 2 ^ 63 ∷ 0 ∷ []) (0 ∷ 1 ∷ []) (zeros 4) (zeros 3)
+
+-- ---- two ids at gamma 2.0
+
+-- one level is enough for them: 1 has the position 139, and 2 has 197
+abbrev pub pair : List ℕ
+pair = 1 ∷ 2 ∷ []
+
+abbrev pub lentPair : Stores
+lentPair = stores (zeros 4) (zeros 1) (zeros 4) (zeros 2)
+
+abbrev pub pairBuilt : Built
+pairBuilt = record { outcome = Done; head = record { count = 2; levels = 1; sizes = filled (255 ∷ []) maxLevels } }
+
+abbrev pub pairLeft : Stores
+pairLeft = stores (0 ∷ 0 ∷ 2 ^ 11 ∷ 2 ^ 5 ∷ []) (0 ∷ []) (zeros 4) (zeros 2)
+
+-- their places there
+abbrev pub firstPlace : Place
+firstPlace = record { row = 0; level = 0; position = 139 }
+
+abbrev pub secondPlace : Place
+secondPlace = record { row = 1; level = 0; position = 197 }
+
+-- ---- refused builds
+
+abbrev pub refusedWith : Refusal → Built
+refusedWith why = record { outcome = Refused why; head = noHead }
