@@ -1,6 +1,7 @@
 //! The lists that `replay` compares the proved functions with. Each is drawn by a number stated in it, and by nothing else.
 
 mod level;
+mod lookup;
 mod rank;
 mod set;
 mod size;
@@ -31,6 +32,7 @@ pub fn all() -> Vec<(&'static str, List)> {
         ("level", level::levels()),
         ("samples", rank::samples()),
         ("rank", rank::ranks()),
+        ("lookup", lookup::lookups()),
     ]
 }
 

@@ -1,4 +1,5 @@
 // Each kind of case: what the numbers of a line are, and whether the proved functions answer as it says.
+use crate::finding;
 use crate::list::MOST;
 use crate::placing;
 use crate::ranking;
@@ -32,6 +33,8 @@ pub enum Kind {
     // see ranking
     Samples,
     Rank,
+    // see finding
+    Lookup,
 }
 
 // Whether a line of so many numbers is a case that holds.
@@ -55,6 +58,7 @@ pub(crate) fn holds(kind: Kind, count: usize, line: &[u64; MOST]) -> bool {
         Kind::Level => placing::place(count, line),
         Kind::Samples => ranking::samples(count, line),
         Kind::Rank => ranking::rank(count, line),
+        Kind::Lookup => finding::lookup(count, line),
     }
 }
 

@@ -1,0 +1,44 @@
+//! Lookups by boomphf's `try_hash`, each with the whole index: `id, answer, how many ids, how many levels, how many words, how many
+//! samples, level sizes, words, samples`. The answer is a row, or 2^64 - 1 for none.
+
+use super::{draw, words};
+use crate::boomphf::Mphf;
+use crate::draw::Draw;
+use crate::list::List;
+
+const GAMMAS: [f64; 5] = [1.0100000000000002, 1.5, 2.0, 5.0, 16.0];
+
+pub fn lookups() -> List {
+    let mut draw = draw(18);
+    let mut list = List::default();
+    for gamma in GAMMAS {
+        for count in [0, 1, 2, 60, 171, 1000] {
+            let ids: Vec<u64> = (0..count).map(|_| draw.next()).collect();
+            let index = Mphf::new(gamma, &ids);
+            for id in asked(&mut draw, &ids) {
+                case(&mut list, count, &index, id);
+            }
+        }
+    }
+    list
+}
+
+fn case(list: &mut List, count: u64, index: &Mphf<u64>, id: u64) {
+    let answer = index.try_hash(&id).unwrap_or(u64::MAX);
+    let sizes: Vec<u64> = index.bitvecs.iter().map(|(level, _)| level.capacity()).collect();
+    let words: Vec<u64> = index.bitvecs.iter().flat_map(|(level, _)| words(level)).collect();
+    let samples: Vec<u64> = index.bitvecs.iter().flat_map(|(_, samples)| samples.to_vec()).collect();
+    let lengths = [&sizes, &words, &samples].map(|store| store.len() as u64);
+    list.case(&[vec![id, answer, count], lengths.to_vec(), sizes, words, samples].concat());
+}
+
+/// Ids of the index, ids next to them, and any others.
+fn asked(draw: &mut Draw, ids: &[u64]) -> Vec<u64> {
+    let mut asked = Vec::new();
+    for _ in 0..ids.len().min(6) {
+        let id = ids[draw.below(ids.len() as u64) as usize];
+        asked.extend([id, id ^ 1]);
+    }
+    asked.extend((0..4).map(|_| draw.next()));
+    asked
+}
