@@ -25,11 +25,19 @@ pub fn lookups() -> List {
 
 fn case(list: &mut List, count: u64, index: &Mphf<u64>, id: u64) {
     let answer = index.try_hash(&id).unwrap_or(u64::MAX);
-    let sizes: Vec<u64> = index.bitvecs.iter().map(|(level, _)| level.capacity()).collect();
-    let words: Vec<u64> = index.bitvecs.iter().flat_map(|(level, _)| words(level)).collect();
-    let samples: Vec<u64> = index.bitvecs.iter().flat_map(|(_, samples)| samples.to_vec()).collect();
-    let lengths = [&sizes, &words, &samples].map(|store| store.len() as u64);
-    list.case(&[vec![id, answer, count], lengths.to_vec(), sizes, words, samples].concat());
+    let stores = stores(index);
+    let lengths = stores.iter().map(|store| store.len() as u64).collect();
+    list.case(&[vec![id, answer, count], lengths, stores.concat()].concat());
+}
+
+/// The sizes of the levels; their words, one level after another; their samples likewise.
+fn stores(index: &Mphf<u64>) -> [Vec<u64>; 3] {
+    let levels = index.bitvecs.iter();
+    [
+        levels.clone().map(|(level, _)| level.capacity()).collect(),
+        levels.clone().flat_map(|(level, _)| words(level)).collect(),
+        levels.flat_map(|(_, samples)| samples.to_vec()).collect(),
+    ]
 }
 
 /// Ids of the index, ids next to them, and any others.
