@@ -1,5 +1,6 @@
 // Cases of lookups.
 ghost use Prim.Native.Nat.{_≤_};
+ghost use Rattle.bounds.specs.Bounds.{maxLevels};
 use crate::list::MOST;
 use bounds::MAX_LEVELS;
 use mphf::Head;
@@ -35,7 +36,7 @@ pub(crate) fn lookup(count: usize, line: &[u64; MOST]) -> bool {
 
 // The sizes of a head: those of the line, and 0 past them.
 fn sizes(line: &[u64; MOST], levels: usize) -> [u64; MAX_LEVELS]
-    requires { ⌜ levels ≤ 100 ⌝ }
+    requires { ⌜ levels ≤ maxLevels ⌝ }
 {
     let mut sizes = [0; MAX_LEVELS];
     for i in 0..levels {

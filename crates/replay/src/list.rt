@@ -21,7 +21,7 @@ pub enum Line {
     Broken,
 }
 
-// No line has more numbers.
+// No line has more numbers: `most` in specs/Lines.antt.
 pub const MOST: usize = 512;
 
 // No line has more bytes.
