@@ -57,6 +57,22 @@ fn insert_all_asks_for_equal_word_counts_alone() {
     two.insert(1);
     assert!(one.insert_all(&two));
     assert!(one.contains(1));
+    assert!(catch_unwind(|| BitVector::new(1).insert_all(&BitVector::new(65))).is_err());
+}
+
+/// D12
+#[test]
+fn a_bit_past_the_capacity_is_counted() {
+    let mut set = BitVector::new(255);
+    set.insert(255);
+    assert_eq!(set.len(), 1);
+    assert!(!set.is_empty());
+}
+
+/// D13
+#[test]
+fn eq_left_goes_past_the_capacities() {
+    assert!(BitVector::new(1).eq_left(&BitVector::new(2), 2));
 }
 
 /// D11

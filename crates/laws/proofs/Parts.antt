@@ -2,7 +2,7 @@
 use mathlib.Core.Path.{_≡_, sym, ap, _∙_}
 use mathlib.Core.List.{List, _++_, append-nil}
 use Prim.Native.Nat.{ℕ, _+_, _-_, _≤_}
-use native.Mathlib.Nat.{le-dest}
+use native.Mathlib.Nat.{le-dest, le-refl}
 use native.Mathlib.Omega.{arith}
 use lib.ListN.{length, take, drop, replicate, length-take, length-drop, drop-of-length-le, length-replicate, replicate-append-replicate}
 use lib.Seq.{take-all, take-at, drop-at}
@@ -32,3 +32,8 @@ drop-same n m v h =
     let e : m - n ≡ d .0 = omega arith in
     rw e (ap (λ (k : ℕ). drop n (replicate k v)) (sym (d .1)) ∙ ap (drop n) (sym (replicate-append-replicate n (d .0) v))
     ∙ drop-at (replicate n v) (replicate (d .0) v) n (length-replicate n v))
+
+-- a store that is filled to its end holds nothing else
+pub filled-whole : (store : List ℕ) (v : ℕ) → replicate (length store) v ++ drop (length store) store ≡ replicate (length store) v
+filled-whole store v =
+    ap (λ (l : List ℕ). replicate (length store) v ++ l) (drop-of-length-le store (le-refl (length store))) ∙ append-nil (replicate (length store) v)

@@ -83,7 +83,7 @@ front-past front store i h =
     ∙ getD-drop (length front) store (i - length front) 0
     ∙ ap (λ (k : ℕ). getD store k 0) (sym e)
 
-front-more : (front store : List ℕ) (x : ℕ) → length front < length store → set (fronted front store) (length front) x ≡ fronted (front ++ (x ∷ [])) store
+pub front-more : (front store : List ℕ) (x : ℕ) → length front < length store → set (fronted front store) (length front) x ≡ fronted (front ++ (x ∷ [])) store
 front-more front store x h =
     rw (drop-cons store (length front) 0 h, set-append-seam front (getD store (length front) 0) (drop (suc (length front)) store) x, length-append, add-one)
     (sym (append-snoc front x (drop (suc (length front)) store)))

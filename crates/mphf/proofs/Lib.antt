@@ -1,3 +1,12 @@
 pub mod Fits
 pub mod Finds
 pub mod Turns
+pub mod Indexes
+pub mod Runs
+pub mod Builds
+pub mod Lists
+pub mod Marks
+pub mod Sent
+pub mod RowCalls
+pub mod RowPromise
+pub mod RowTable

@@ -1,6 +1,6 @@
 -- One level of a build, over plain lists: what its pieces ask, and what they leave together. Assumes nothing.
-use mathlib.Core.Path.{_≡_, sym, ap, _∙_}
-use mathlib.Core.Bool.{Bool, false, and-false}
+use mathlib.Core.Path.{_≡_, refl, sym, ap, _∙_}
+use mathlib.Core.Bool.{Bool, true, false, cond, and-false}
 use mathlib.Core.List.{List, _++_}
 use Prim.Native.Nat.{ℕ, _+_, _-_, _*_, _^_, _≤_, _<_}
 use native.Mathlib.Nat.{add-sub-of-le}
@@ -24,8 +24,9 @@ use Rattle.sizes.specs.Sizes.{samplesFor}
 use Rattle.sizes.proofs.Sizes.{size-least, size-most}
 use Rattle.mphf.specs.Layout.{samplesOfSize}
 use Rattle.mphf.specs.Index.{Stores, stores, zeros}
-use Rattle.mphf.specs.Turn.{pasted, Placeable, PlacedAt, Sampleable, SampledAt, nextSize, Ready, hasRoom, turned, levelTurn}
+use Rattle.mphf.specs.Turn.{pasted, Placeable, PlacedAt, Sampleable, SampledAt, nextSize, Ready, hasRoom, Turned, turned, nextProgress, nextStores, levelTurn}
 use Rattle.mphf.specs.declared.building.Progress.{Progress}
+use Rattle.mphf.specs.declared.building.Turn.{Turn}
 use Rattle.mphf.specs.declared.building.Turn.the-variants as T
 
 -- all places from `at` on, as they are lent
@@ -167,3 +168,41 @@ module _ (gamma : Float) (at : Progress) (s : Stores) (r : Ready gamma at s) {si
             le-leb (at .words + wordsFor (nextSize gamma at)) (length (s .words)) h,
             le-leb (at .samples + samplesOfSize (nextSize gamma at)) (length (s .samples)) k,
           )
+
+-- ---- what a turn tells
+
+pub turn-is : {turn other : Turn} {after : Stores} {t : Turned} → turn ≡ other → turned turn after ≡ t → turned other after ≡ t
+turn-is {after = after} e f = ap (λ (x : Turn). turned x after) (sym e) ∙ f
+
+module _ (gamma : Float) (at : Progress) (s : Stores) where
+  pub record IsPlaced (size : ℕ) (next : Progress) (after : Stores) : Type 0 where
+    pub has-room : hasRoom gamma at s ≡ true
+    pub size-is : size ≡ nextSize gamma at
+    pub next-is : next ≡ nextProgress gamma at s
+    pub stores-are : after ≡ nextStores gamma at s
+
+  pub turn-placed : {size : ℕ} {next : Progress} {after : Stores} → turned (T.Placed size next) after ≡ levelTurn gamma at s → IsPlaced size next after
+  unfolding levelTurn
+  turn-placed {size} {next} {after} e = go (hasRoom gamma at s) refl e
+    where
+      go : (b : Bool) → hasRoom gamma at s ≡ b
+          → turned (T.Placed size next) after ≡ cond b (turned (T.Placed (nextSize gamma at) (nextProgress gamma at s)) (nextStores gamma at s)) (turned T.NoRoom s)
+          → IsPlaced size next after
+      go true h f =
+          let t : T.Placed size next ≡ T.Placed (nextSize gamma at) (nextProgress gamma at s) = ap (λ (x : Turned). x .turn) f in
+          record { has-room = h; size-is = cc; next-is = cc; stores-are = ap (λ (x : Turned). x .stores) f }
+      go false h f =
+          let t : T.Placed size next ≡ T.NoRoom = ap (λ (x : Turned). x .turn) f in
+          let z : _≡_ {A = ℕ} 0 1 = cc in absurd (omega arith)
+
+  pub turn-full : {after : Stores} → turned T.NoRoom after ≡ levelTurn gamma at s → (hasRoom gamma at s ≡ false) × (after ≡ s)
+  unfolding levelTurn
+  turn-full {after} e = go (hasRoom gamma at s) refl e
+    where
+      go : (b : Bool) → hasRoom gamma at s ≡ b
+          → turned T.NoRoom after ≡ cond b (turned (T.Placed (nextSize gamma at) (nextProgress gamma at s)) (nextStores gamma at s)) (turned T.NoRoom s)
+          → (hasRoom gamma at s ≡ false) × (after ≡ s)
+      go true h f =
+          let t : T.NoRoom ≡ T.Placed (nextSize gamma at) (nextProgress gamma at s) = ap (λ (x : Turned). x .turn) f in
+          let z : _≡_ {A = ℕ} 0 1 = cc in absurd (omega arith)
+      go false h f = (h, ap (λ (x : Turned). x .stores) f)

@@ -19,14 +19,14 @@ use Rattle.mphf.specs.Index.{Stores, zeros, filled, ruleOf, roomOf, inde
 use Rattle.mphf.specs.declared.fitting.Head.{Head}
 
 -- what a build leaves behind: 01's refusal number, 0 for none, with the value that it carries; the head; the stores
-pub record Built : Type 0 where
+pub record BuildEnd : Type 0 where
   pub refusal : ℕ
   pub value : ℕ
   pub head : Head
   pub stores : Stores
 
 -- the answer and the head of the code's struct, beside the stores
-abbrev pub builtOf : Made → Head → Stores → Built
+abbrev pub builtOf : Made → Head → Stores → BuildEnd
 builtOf Done head s = record { refusal = 0; value = 0; head = head; stores = s }
 builtOf (Refused r) head s = record { refusal = numberOf r; value = valueOf r; head = head; stores = s }
 
@@ -57,11 +57,11 @@ cleared s = record {
 }
 
 -- a refused run: its number and value, a head of 0, and stores of 0
-abbrev pub refusedRun : ℕ → ℕ → Stores → Built
+abbrev pub refusedRun : ℕ → ℕ → Stores → BuildEnd
 refusedRun number value s = record { refusal = number; value = value; head = noHead; stores = cleared s }
 
 -- what the run's outcome leaves: the index, with 0 past it and in the work stores; or the refusal 5, which gives the level, or 6, which gives how many remain
-abbrev pub ended : Float → List ℕ → Stores → Outcome → Built
+abbrev pub ended : Float → List ℕ → Stores → Outcome → BuildEnd
 ended gamma ids s (built n) = record {
   refusal = 0;
   value = 0;
@@ -79,9 +79,9 @@ ended gamma ids s (idsLeft n) = refusedRun 6 n s
 -- ---- the call
 
 -- A build of the ids in the stores: the checks 1 to 4, which leave the stores as they were, then the run.
-abbrev pub afterChecks : Made → Float → List ℕ → Stores → Built
+abbrev pub afterChecks : Made → Float → List ℕ → Stores → BuildEnd
 afterChecks (Refused r) gamma ids s = builtOf (Refused r) noHead s
 afterChecks Done gamma ids s = ended gamma ids s (run (ruleOf gamma) (roomOf (length (s .words)) (length (s .samples))) ids maxLevels)
 
-unfoldable pub buildCall : Float → List ℕ → Stores → Built
+unfoldable pub buildCall : Float → List ℕ → Stores → BuildEnd
 buildCall gamma ids s = afterChecks (buildChecks gamma (length ids) (length (s .collide)) (length (s .rest))) gamma ids s

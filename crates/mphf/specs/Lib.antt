@@ -4,3 +4,6 @@ pub mod Lookup
 pub mod Index
 pub mod Build
 pub mod Turn
+pub mod Run
+pub mod Rows
+pub mod Passes

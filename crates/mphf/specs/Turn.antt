@@ -97,21 +97,25 @@ module _ (gamma : Float) (at : Progress) (s : Stores) where
   abbrev pub ownWords : List ℕ
   ownWords = packed (wordsFor (nextSize gamma at)) (single spot comers)
 
-  -- The level stands after the others, its samples likewise, the ids that go on at the front of the rest store, and collide is 0 again; or there is no room.
-  unfoldable pub levelTurn : Turned
-  levelTurn =
-      cond hasRoom
-      (turned
-      (T.Placed (nextSize gamma at) (record {
-        level = at .level + 1;
-        remaining = length (rest spot comers);
-        words = at .words + wordsFor (nextSize gamma at);
-        samples = at .samples + samplesOfSize (nextSize gamma at);
-        set = at .set + setBits ownWords;
-      }))
-      (stores
+  -- how far the build has come after the level
+  abbrev pub nextProgress : Progress
+  nextProgress = record {
+    level = at .level + 1;
+    remaining = length (rest spot comers);
+    words = at .words + wordsFor (nextSize gamma at);
+    samples = at .samples + samplesOfSize (nextSize gamma at);
+    set = at .set + setBits ownWords;
+  }
+
+  -- the level stands after the others, its samples likewise; collide is as it was; the ids that go on stand at the front of the rest store
+  abbrev pub nextStores : Stores
+  nextStores =
+      stores
       (pasted (at .words) ownWords (s .words))
       (pasted (at .samples) (samplesOf (at .set) ownWords) (s .samples))
       (s .collide)
-      (fronted (rest spot comers) (s .rest))))
-      (turned T.NoRoom s)
+      (fronted (rest spot comers) (s .rest))
+
+  -- The level is placed, if there is room for it.
+  unfoldable pub levelTurn : Turned
+  levelTurn = cond hasRoom (turned (T.Placed (nextSize gamma at) nextProgress) nextStores) (turned T.NoRoom s)

@@ -17,11 +17,15 @@ pub fn number(n: u64) {
 pub fn numbers(name: &[u8], list: &[u64]) {
     text(name);
     text(b":");
+    spell(list);
+    text(b"\n");
+}
+
+fn spell(list: &[u64]) {
     for i in 0..list.len() {
         text(b" ");
         number(list[i]);
     }
-    text(b"\n");
 }
 
 // A line: what was asked, and the answer.
@@ -63,4 +67,27 @@ fn refused(reason: Refusal) {
     text(b": refused ");
     number(refusal::number(reason));
     text(b"\n");
+}
+
+// A part of a line: what a store is called, and what it holds: its numbers, or the one number of a long store.
+pub fn contents(name: &[u8], store: &[u64]) {
+    text(b", ");
+    text(name);
+    if store.len() > 8 {
+        if all_are(store, store[0]) {
+            text(b" all ");
+            number(store[0]);
+            return;
+        }
+    }
+    spell(store);
+}
+
+fn all_are(store: &[u64], n: u64) -> bool {
+    for i in 0..store.len() {
+        if store[i] != n {
+            return false;
+        }
+    }
+    true
 }
