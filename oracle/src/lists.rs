@@ -1,5 +1,6 @@
 //! The lists that `replay` compares the proved functions with. Each is drawn by a number stated in it, and by nothing else.
 
+mod index;
 mod level;
 mod lookup;
 mod rank;
@@ -33,6 +34,7 @@ pub fn all() -> Vec<(&'static str, List)> {
         ("samples", rank::samples()),
         ("rank", rank::ranks()),
         ("lookup", lookup::lookups()),
+        ("build", index::builds()),
     ]
 }
 

@@ -22,7 +22,7 @@ pub enum Line {
 }
 
 // No line has more numbers: `most` in specs/Lines.antt.
-pub const MOST: usize = 512;
+pub const MOST: usize = 8192;
 
 // No line has more bytes.
 const LONGEST: u64 = 1_000_000;

@@ -1,5 +1,6 @@
 // Answers of the Rust, replayed: each list of data/ holds cases of one kind, what was asked and what boomphf answered, and the proved functions must answer the
 // same. One line is written for each kind: how many cases are equal, or the first that is not.
+mod building;
 mod case;
 mod finding;
 mod list;
@@ -52,6 +53,7 @@ fn main() {
     replay(b"samples", Kind::Samples);
     replay(b"rank", Kind::Rank);
     replay(b"lookup", Kind::Lookup);
+    replay(b"build", Kind::Build);
 }
 
 // Compares the list of this name, and writes its line.

@@ -31,7 +31,7 @@ fn case(list: &mut List, count: u64, index: &Mphf<u64>, id: u64) {
 }
 
 /// The sizes of the levels; their words, one level after another; their samples likewise.
-fn stores(index: &Mphf<u64>) -> [Vec<u64>; 3] {
+pub fn stores(index: &Mphf<u64>) -> [Vec<u64>; 3] {
     let levels = index.bitvecs.iter();
     [
         levels.clone().map(|(level, _)| level.capacity()).collect(),
