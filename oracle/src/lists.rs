@@ -1,6 +1,8 @@
 //! The lists that `replay` compares the proved functions with. Each is drawn by a number stated in it, and by nothing else.
 
+mod index;
 mod level;
+mod lookup;
 mod rank;
 mod set;
 mod size;
@@ -31,6 +33,8 @@ pub fn all() -> Vec<(&'static str, List)> {
         ("level", level::levels()),
         ("samples", rank::samples()),
         ("rank", rank::ranks()),
+        ("lookup", lookup::lookups()),
+        ("build", index::builds()),
     ]
 }
 

@@ -1,4 +1,6 @@
 // Each kind of case: what the numbers of a line are, and whether the proved functions answer as it says.
+use crate::building;
+use crate::finding;
 use crate::list::MOST;
 use crate::placing;
 use crate::ranking;
@@ -32,6 +34,10 @@ pub enum Kind {
     // see ranking
     Samples,
     Rank,
+    // see finding
+    Lookup,
+    // see building
+    Build,
 }
 
 // Whether a line of so many numbers is a case that holds.
@@ -55,6 +61,8 @@ pub(crate) fn holds(kind: Kind, count: usize, line: &[u64; MOST]) -> bool {
         Kind::Level => placing::place(count, line),
         Kind::Samples => ranking::samples(count, line),
         Kind::Rank => ranking::rank(count, line),
+        Kind::Lookup => finding::lookup(count, line),
+        Kind::Build => building::build(count, line),
     }
 }
 
@@ -69,11 +77,16 @@ fn position(level: u64, size: u64, id: u64) -> u64 {
 
 // Whether a level for gamma, given by its bits, and so many ids takes so many bits and words.
 fn is_size(gamma: u64, ids: u64, bits: u64, words: u64) -> bool {
-    if gamma < INFINITY {
-        let takes = measure(f64::from_bits(gamma), ids);
-        takes.bits == bits && takes.words == words
+    let takes = measure(real(gamma), ids);
+    takes.bits == bits && takes.words == words
+}
+
+// The f64 of these bits: 0, where they are those of none that is finite and not negative.
+pub(crate) fn real(bits: u64) -> f64 {
+    if bits < INFINITY {
+        f64::from_bits(bits)
     } else {
-        false
+        0.0
     }
 }
 

@@ -21,8 +21,8 @@ pub enum Line {
     Broken,
 }
 
-// No line has more numbers.
-pub const MOST: usize = 512;
+// No line has more numbers: `most` in specs/Lines.antt.
+pub const MOST: usize = 8192;
 
 // No line has more bytes.
 const LONGEST: u64 = 1_000_000;

@@ -1,6 +1,8 @@
 // Answers of the Rust, replayed: each list of data/ holds cases of one kind, what was asked and what boomphf answered, and the proved functions must answer the
 // same. One line is written for each kind: how many cases are equal, or the first that is not.
+mod building;
 mod case;
+mod finding;
 mod list;
 mod placing;
 mod ranking;
@@ -50,6 +52,8 @@ fn main() {
     replay(b"level", Kind::Level);
     replay(b"samples", Kind::Samples);
     replay(b"rank", Kind::Rank);
+    replay(b"lookup", Kind::Lookup);
+    replay(b"build", Kind::Build);
 }
 
 // Compares the list of this name, and writes its line.

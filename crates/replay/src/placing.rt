@@ -2,6 +2,7 @@
 ghost use mathlib.Core.Path.{_≡_};
 ghost use Prim.Native.Nat.{_≤_};
 ghost use Rattle.level.specs.Level.{Clear};
+ghost use Rattle.replay.specs.Lines.{most};
 use crate::list::MOST;
 use crate::stores::copy;
 use crate::stores::is_left;
@@ -43,7 +44,7 @@ pub(crate) fn place(count: usize, line: &[u64; MOST]) -> bool {
 
 // The line, with 0 in its first n numbers.
 fn cleared(line: &[u64; MOST], n: usize) -> [u64; MOST]
-    requires { ⌜ n ≤ 512 ⌝ }
+    requires { ⌜ n ≤ most ⌝ }
     ensures { λ r. ⌜ Clear n r ⌝ }
 {
     let mut store = copy(line);

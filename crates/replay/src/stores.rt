@@ -1,5 +1,6 @@
 // What a call leaves in a store that was a copy of its line.
 ghost use Prim.Native.Nat.{_≤_, _<_};
+ghost use Rattle.replay.specs.Lines.{most};
 use crate::list::MOST;
 
 pub(crate) fn copy(line: &[u64; MOST]) -> [u64; MOST] {
@@ -31,7 +32,7 @@ pub(crate) fn is_left(
 
 // The place of the line whose number the store has at place i.
 fn source(at: usize, n: usize, elsewhere: usize, i: usize) -> usize
-    requires { ⌜ (elsewhere ≤ 512) × (i < 512) ⌝ }
+    requires { ⌜ (elsewhere ≤ most) × (i < most) ⌝ }
 {
     if i < at {
         return i;

@@ -1,7 +1,8 @@
-// The answer of a call as one number: yes is 1, no and done are 0, a count is itself. Refusal r is 2^64 - 1 - r.
+// The answer of a call as one number: yes is 1, no and done are 0, a count or a row is itself. No row is 2^64 - 1, and refusal r is 2^64 - 1 - r.
 use bitvector::Counted;
 use bitvector::Made;
 use bitvector::Said;
+use mphf::Found;
 use refusal::Refusal;
 
 pub fn made(answer: Made) -> u64 {
@@ -23,6 +24,14 @@ pub fn counted(answer: Counted) -> u64 {
     match answer {
         Counted::Count(n) => n,
         Counted::Refused(reason) => refused(reason),
+    }
+}
+
+pub fn found(answer: Found) -> u64 {
+    match answer {
+        Found::Row(place) => place.row,
+        Found::None => u64::MAX,
+        Found::Refused(reason) => refused(reason),
     }
 }
 
