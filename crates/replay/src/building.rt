@@ -77,13 +77,9 @@ fn is_refused(
     let Made::Refused(why) = outcome else {
         return false;
     };
-    let head = built.head;
-    let sizes = head.sizes;
     refusal::number(why) == IDS_REMAIN
         && refusal::value(why) == remain
-        && head.count == 0
-        && head.levels == 0
-        && is_just(&sizes, none)
+        && is_head(built.head, 0, 0, none)
         && is_just(words, none)
         && is_just(samples, none)
 }
@@ -116,12 +112,9 @@ fn is_index(
     let samples_at = words_at + line[4] as usize;
     let rows_at = samples_at + line[5] as usize;
     let head = built.head;
-    let sizes = head.sizes;
     let numbers = &line[..];
     is_done(built)
-        && head.count == line[1]
-        && head.levels == line[2]
-        && is_just(&sizes, &numbers[levels_at..words_at])
+        && is_head(head, line[1], line[2], &numbers[levels_at..words_at])
         && is_just(words, &numbers[words_at..samples_at])
         && is_just(samples, &numbers[samples_at..rows_at])
         && are_found(head, count, line, n, rows_at, words, samples)
@@ -134,6 +127,12 @@ fn is_done(built: Built) -> bool {
         Made::Done => true,
         Made::Refused(_) => false,
     }
+}
+
+// Whether a head has this id count, this level count, and these level sizes and no others.
+fn is_head(head: Head, count: u64, levels: u64, sizes: &[u64]) -> bool {
+    let all = head.sizes;
+    head.count == count && head.levels == levels && is_just(&all, sizes)
 }
 
 // Whether the lookups of the line give what it says: of the ids their rows, and of the ids looked up the answers.
