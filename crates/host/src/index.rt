@@ -1,0 +1,84 @@
+// The calls on an index: those of `mphf`, with the head as numbers and each answer as one number.
+ghost use mathlib.Core.Path.{_≡_};
+ghost use Rattle.mphf.specs.Index.{stores};
+ghost use Rattle.host.specs.Flat.{seen, buildSeen, rowsSeen, flatBuild, flatLookup, flatRows};
+use crate::answer;
+use crate::answer::refused;
+use crate::head;
+use mphf::Found;
+use refusal::Refusal;
+
+// Builds an index of the ids: 0, or the refusal. `out` gets the value that refusal 5 or 6 carries, else 0, and the head.
+#[no_mangle]
+pub extern "C" fn shawltide_build(
+    gamma: f64,
+    ids: &[u64],
+    words: &mut [u64],
+    samples: &mut [u64],
+    collide: &mut [u64],
+    rest: &mut [u64],
+    out: &mut [u64],
+) -> u64
+    ensures { λ r. ⌜ buildSeen r (stores (now (words .exit)) (now (samples .exit)) (now (collide .exit)) (now (rest .exit))) (now (out .exit))
+        ≡ flatBuild gamma (now (ids .entry)) (stores (now (words .entry)) (now (samples .entry)) (now (collide .entry)) (now (rest .entry))) (now (out .entry)) ⌝ }
+{
+    if out.len() < head::OUT {
+        return refused(Refusal::ShortOutput);
+    }
+    let built = mphf::build(gamma, ids, words, samples, collide, rest);
+    let outcome = built.outcome;
+    let head = built.head;
+    let sizes = head.sizes;
+    head::write(answer::value(outcome), head.count, head.levels, &sizes, out);
+    answer::made(outcome)
+}
+
+// The id's row, none, or the refusal. `place` gets the level and the position of a row.
+#[no_mangle]
+pub extern "C" fn shawltide_lookup(
+    head: &[u64],
+    words: &[u64],
+    samples: &[u64],
+    id: u64,
+    place: &mut [u64],
+) -> u64
+    ensures { λ r. ⌜ seen r (now (place .exit))
+        ≡ flatLookup (now (head .entry)) (now (words .entry)) (now (samples .entry)) id (now (place .entry)) ⌝ }
+{
+    if place.len() < 2 {
+        return refused(Refusal::ShortOutput);
+    }
+    if head.len() != head::NUMBERS {
+        return refused(Refusal::UnfitHead);
+    }
+    let found = mphf::lookup(head::read(head), words, samples, id);
+    match found {
+        Found::Row(at) => {
+            place[0] = at.level;
+            place[1] = at.position;
+            at.row
+        }
+        Found::None => u64::MAX,
+        Found::Refused(reason) => refused(reason),
+    }
+}
+
+// Writes at each row the id that lookup sends there: 0, or the refusal.
+#[no_mangle]
+pub extern "C" fn shawltide_rows(
+    head: &[u64],
+    words: &[u64],
+    samples: &[u64],
+    ids: &[u64],
+    rows: &mut [u64],
+    marks: &mut [u64],
+) -> u64
+    ensures { λ r. ⌜ rowsSeen r (now (rows .exit)) (now (marks .exit))
+        ≡ flatRows (now (head .entry)) (now (words .entry)) (now (samples .entry)) (now (ids .entry)) (now (rows .entry)) (now (marks .entry)) ⌝ }
+{
+    if head.len() != head::NUMBERS {
+        return refused(Refusal::UnfitHead);
+    }
+    let answer = mphf::rows(head::read(head), words, samples, ids, rows, marks);
+    answer::made(answer)
+}
