@@ -1,13 +1,15 @@
 // Answers as one number.
 ghost use mathlib.Core.Path.{_≡_};
 ghost use Rattle.refusal.specs.Table.{numberOf};
-ghost use Rattle.host.specs.Numbers.{refusedNumber, ofMade, ofSaid, ofCounted, valueIn};
+ghost use Rattle.mphf.specs.Lookup.{answerOf};
+ghost use Rattle.host.specs.Numbers.{refusedNumber, ofMade, ofSaid, ofCounted, ofAnswer, valueIn};
 use bitvector::Counted;
 use bitvector::Made;
 use bitvector::Said;
+use mphf::Found;
 use refusal::Refusal;
 
-pub(crate) fn made(answer: Made) -> u64
+pub fn made(answer: Made) -> u64
     ensures { λ n. ⌜ n ≡ ofMade answer ⌝ }
 {
     match answer {
@@ -16,7 +18,7 @@ pub(crate) fn made(answer: Made) -> u64
     }
 }
 
-pub(crate) fn said(answer: Said) -> u64
+pub fn said(answer: Said) -> u64
     ensures { λ n. ⌜ n ≡ ofSaid answer ⌝ }
 {
     match answer {
@@ -26,12 +28,22 @@ pub(crate) fn said(answer: Said) -> u64
     }
 }
 
-pub(crate) fn counted(answer: Counted) -> u64
+pub fn counted(answer: Counted) -> u64
     ensures { λ n. ⌜ n ≡ ofCounted answer ⌝ }
 {
     match answer {
         Counted::Count(n) => n,
         Counted::Refused(reason) => refused(reason),
+    }
+}
+
+pub fn found(answer: Found) -> u64
+    ensures { λ n. ⌜ n ≡ ofAnswer (answerOf answer) ⌝ }
+{
+    match answer {
+        Found::Row(place) => place.row,
+        Found::None => u64::MAX,
+        Found::Refused(reason) => refused(reason),
     }
 }
 

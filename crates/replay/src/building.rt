@@ -5,9 +5,9 @@ use crate::case::real;
 use crate::list::MOST;
 use bitvector::Made;
 use bounds::MAX_LEVELS;
+use host::answer;
 use mphf::Built;
 use mphf::Head;
-use trial::answer;
 
 // No line has more ids: `mostIds` in specs/Lines.antt.
 const MOST_IDS: usize = 3000;

@@ -3,8 +3,8 @@ ghost use Prim.Native.Nat.{_≤_};
 ghost use Rattle.bounds.specs.Bounds.{maxLevels};
 use crate::list::MOST;
 use bounds::MAX_LEVELS;
+use host::answer;
 use mphf::Head;
-use trial::answer;
 
 // No index of a line has more words, and none has more samples.
 const MOST_WORDS: u64 = 400;

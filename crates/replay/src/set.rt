@@ -4,7 +4,7 @@ ghost use Prim.Native.Nat.{_≤_};
 use crate::list::MOST;
 use crate::stores::copy;
 use crate::stores::is_left;
-use trial::answer;
+use host::answer;
 
 // No set of a line has a larger capacity.
 const LARGEST: u64 = 4096;
