@@ -17,6 +17,8 @@ pub mod boomphf {
 }
 
 pub mod draw;
+pub mod ids;
+pub mod judge;
 pub mod list;
 pub mod lists;
 pub mod plain;

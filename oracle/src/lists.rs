@@ -7,9 +7,9 @@ mod rank;
 mod set;
 mod size;
 
-use crate::bitvector::BitVector;
 use crate::boomphf::{fold, hash_with_seed, hashmod};
 use crate::draw::Draw;
+use crate::judge::words;
 use crate::list::List;
 
 /// Every list, by the name of its file.
@@ -41,11 +41,6 @@ pub fn all() -> Vec<(&'static str, List)> {
 /// What a list, or what several share, is drawn from.
 fn draw(number: u64) -> Draw {
     Draw::new(0x0073_6861_776C_0000 + number)
-}
-
-/// The words that hold a set.
-fn words(set: &BitVector) -> Vec<u64> {
-    (0..set.num_words()).map(|word| set.get_word(word)).collect()
 }
 
 const LEVELS: [u64; 5] = [0, 1, 31, 32, 99];

@@ -3,10 +3,10 @@
 use std::{env, fs, path::Path, process};
 
 fn main() {
-    let Some(dir) = env::args().nth(1) else {
+    let dir = env::args().nth(1).unwrap_or_else(|| {
         eprintln!("usage: oracle DIR");
-        process::exit(2);
-    };
+        process::exit(2)
+    });
     for (name, list) in oracle::lists::all() {
         let path = Path::new(&dir).join(name);
         if let Err(error) = fs::write(&path, list.finish()) {

@@ -5,18 +5,14 @@
 //! `gamma's bits, how many ids, 0, how many remain, the ids`.
 
 use super::draw;
-use super::lookup::stores;
-use crate::boomphf::{Context, Mphf};
 use crate::draw::Draw;
+use crate::ids::{consecutive, multiples, random, repeated};
+use crate::judge::{build, remaining, stores};
 use crate::list::List;
-use std::panic;
 
 const GAMMAS: [f64; 8] = [1.0100000000000002, 1.1, 1.5, 1.7, 2.0, 3.0, 5.0, 16.0];
 
 const MOST_IDS: u64 = 3000;
-
-/// Levels 0 to 99.
-const LEVELS: u64 = 100;
 
 pub fn builds() -> List {
     let mut draw = draw(17);
@@ -43,7 +39,7 @@ pub fn builds() -> List {
 
 fn case(list: &mut List, draw: &mut Draw, gamma: f64, ids: &[u64]) {
     let count = ids.len() as u64;
-    let (counts, answer) = match quietly(|| Mphf::new(gamma, ids)) {
+    let (counts, answer) = match build(gamma, ids) {
         Some(index) => {
             let lookups = lookups(draw, ids);
             let [sizes, words, samples] = stores(&index);
@@ -60,59 +56,13 @@ fn case(list: &mut List, draw: &mut Draw, gamma: f64, ids: &[u64]) {
     list.case(&[&[gamma.to_bits(), count], &counts[..], ids, &answer[..]].concat());
 }
 
-/// What is returned, or none where it panics. The panic is not written.
-fn quietly<T>(act: impl FnOnce() -> T + panic::UnwindSafe) -> Option<T> {
-    let hook = panic::take_hook();
-    panic::set_hook(Box::new(|_| {}));
-    let result = panic::catch_unwind(act).ok();
-    panic::set_hook(hook);
-    result
-}
-
-/// How many ids remain after level 99, by the Rust's own steps: its panic does not tell.
-fn remaining(gamma: f64, ids: &[u64]) -> u64 {
-    let mut ids = ids.to_vec();
-    for level in 0..LEVELS {
-        let mut context = Context::new(std::cmp::max(255, (gamma * ids.len() as f64) as u64), level);
-        ids.iter().for_each(|id| context.find_collisions_sync(id));
-        ids.retain(|id| context.filter(id).is_some());
-    }
-    ids.len() as u64
-}
-
 /// Ids next to those of the index, and any others.
 fn lookups(draw: &mut Draw, ids: &[u64]) -> Vec<u64> {
     let near: Vec<u64> = ids.iter().take(8).map(|id| id ^ 1).collect();
     near.into_iter().chain((0..16).map(|_| draw.next())).collect()
 }
 
-fn random(draw: &mut Draw, count: u64) -> Vec<u64> {
-    (0..count).map(|_| draw.next()).collect()
-}
-
-fn consecutive(draw: &mut Draw, count: u64) -> Vec<u64> {
-    let first = draw.next() >> draw.below(64);
-    (0..count).map(|i| first.wrapping_add(i)).collect()
-}
-
-/// Multiples of a power of two.
-fn multiples(draw: &mut Draw, count: u64) -> Vec<u64> {
-    let power = 1 << draw.below(48);
-    (0..count).map(|i| i * power).collect()
-}
-
 /// Ids of which the low 52 bits are 0.
 fn high(_: &mut Draw, count: u64) -> Vec<u64> {
     (0..count).map(|i| i << 52).collect()
-}
-
-/// Random ids, of which one is given again, once to three times.
-fn repeated(draw: &mut Draw) -> Vec<u64> {
-    let count = 1 + draw.below(100);
-    let mut ids = random(draw, count);
-    for _ in 0..1 + draw.below(3) {
-        let place = draw.below(ids.len() as u64 + 1);
-        ids.insert(place as usize, ids[0]);
-    }
-    ids
 }

@@ -1,9 +1,11 @@
 //! Lookups by boomphf's `try_hash`, each with the whole index: `id, answer, how many ids, how many levels, how many words, how many
 //! samples, level sizes, words, samples`. The answer is a row, or 2^64 - 1 for none.
 
-use super::{draw, words};
+use super::draw;
 use crate::boomphf::Mphf;
 use crate::draw::Draw;
+use crate::ids::random;
+use crate::judge::stores;
 use crate::list::List;
 
 const GAMMAS: [f64; 5] = [1.0100000000000002, 1.5, 2.0, 5.0, 16.0];
@@ -13,7 +15,7 @@ pub fn lookups() -> List {
     let mut list = List::default();
     for gamma in GAMMAS {
         for count in [0, 1, 2, 60, 171, 1000] {
-            let ids: Vec<u64> = (0..count).map(|_| draw.next()).collect();
+            let ids = random(&mut draw, count);
             let index = Mphf::new(gamma, &ids);
             for id in asked(&mut draw, &ids) {
                 case(&mut list, count, &index, id);
@@ -28,16 +30,6 @@ fn case(list: &mut List, count: u64, index: &Mphf<u64>, id: u64) {
     let stores = stores(index);
     let lengths = stores.iter().map(|store| store.len() as u64).collect();
     list.case(&[vec![id, answer, count], lengths, stores.concat()].concat());
-}
-
-/// The sizes of the levels; their words, one level after another; their samples likewise.
-pub fn stores(index: &Mphf<u64>) -> [Vec<u64>; 3] {
-    let levels = index.bitvecs.iter();
-    [
-        levels.clone().map(|(level, _)| level.capacity()).collect(),
-        levels.clone().flat_map(|(level, _)| words(level)).collect(),
-        levels.flat_map(|(_, samples)| samples.to_vec()).collect(),
-    ]
 }
 
 /// Ids of the index, ids next to them, and any others.

@@ -4,6 +4,7 @@ use super::{draw, words};
 use crate::bitvector::BitVector;
 use crate::boomphf::Mphf;
 use crate::draw::Draw;
+use crate::ids::random;
 use crate::list::List;
 
 /// `set bits in earlier levels, set bits with this level, how many words, words, samples`
@@ -48,8 +49,7 @@ fn indexes(draw: &mut Draw) -> Vec<Mphf<u64>> {
         (1000, 1.5),
         (1000, 2.0),
     ] {
-        let ids: Vec<u64> = (0..ids).map(|_| draw.next()).collect();
-        indexes.push(Mphf::new(gamma, &ids));
+        indexes.push(Mphf::new(gamma, &random(draw, ids)));
     }
     for _ in 0..16 {
         let levels = (0..3).map(|_| level(draw)).collect();

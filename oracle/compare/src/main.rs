@@ -1,0 +1,50 @@
+//! boomphf, the proved calls of libhost.a and a plain reading of document 01, side by side. `README.md` of the oracle says more.
+
+mod bench;
+mod builds;
+mod calls;
+mod damage;
+mod lent;
+mod plan;
+mod reading;
+mod rows;
+mod sets;
+mod speed;
+#[cfg(test)]
+mod tests;
+
+use calls::Proved;
+use plan::Plan;
+use std::error::Error;
+use std::process::ExitCode;
+
+/// What the cases are drawn from.
+const SEED: u64 = 0x7368_6177_6C00;
+
+fn main() -> ExitCode {
+    let words: Vec<String> = std::env::args().skip(1).collect();
+    let words: Vec<&str> = words.iter().map(String::as_str).collect();
+    let ended = match words[..] {
+        ["quick"] => compare(&plan::QUICK),
+        ["long"] => compare(&plan::LONG),
+        ["speed"] => speed::measure(),
+        ["rows", file, gamma] => rows::write(file, gamma),
+        _ => Err("usage: compare quick | long | speed | rows FILE GAMMA".into()),
+    };
+    match ended {
+        Ok(()) => ExitCode::SUCCESS,
+        Err(error) => {
+            eprintln!("compare: {error}");
+            ExitCode::FAILURE
+        }
+    }
+}
+
+fn compare(plan: &Plan) -> Result<(), Box<dyn Error>> {
+    let equal = plan.run(&Proved, SEED)?;
+    for (kind, calls) in &equal {
+        println!("{calls:>12} {kind}");
+    }
+    println!("compare: {} calls, all equal", equal.values().sum::<u64>());
+    Ok(())
+}

@@ -1,0 +1,184 @@
+//! Which cases are run.
+
+use crate::bench::{Bench, Tally};
+use crate::calls::Calls;
+use crate::lent::{Compared, Difference};
+use crate::reading::MAX_IDS;
+use crate::{builds, damage, sets};
+use oracle::draw::Draw;
+use oracle::ids::{colliding, consecutive, doubled, multiples, random, repeated};
+
+/// How many cases of each kind.
+pub struct Plan {
+    /// Indexes of up to 3,000 ids, and as many with drawn levels.
+    pub small: u64,
+    /// Of up to 100,000.
+    pub middle: u64,
+    /// Of 1,048,576 different ids.
+    pub largest: u64,
+    /// Of 524,288 ids, each given twice.
+    pub doubled: u64,
+    /// Of ids that collide at so many levels, picked from so many.
+    pub colliding: &'static [(u64, u64)],
+    pub sets: u64,
+    /// Sets with about the largest capacity.
+    pub largest_sets: u64,
+}
+
+pub const QUICK: Plan = Plan {
+    small: 1_500,
+    middle: 40,
+    largest: 3,
+    doubled: 0,
+    colliding: &[(1 << 18, 4)],
+    sets: 5_000,
+    largest_sets: 4,
+};
+
+pub const LONG: Plan = Plan {
+    small: 30_000,
+    middle: 600,
+    largest: 36,
+    doubled: 1,
+    colliding: &[(1 << 18, 4), (1 << 20, 4), (1 << 22, 5), (1 << 22, 5)],
+    sets: 200_000,
+    largest_sets: 40,
+};
+
+/// The f64 just above 1.01, the largest gamma, and some between.
+const GAMMAS: [f64; 9] = [1.0100000000000002, 1.1, 1.5, 1.7, 2.0, 2.5, 3.0, 5.0, 16.0];
+
+/// The f64s next to those, outside, and others that are no gamma.
+const NO_GAMMAS: [f64; 9] = [
+    1.01,
+    16.000000000000004,
+    0.0,
+    -0.0,
+    -2.0,
+    f64::MAX,
+    f64::INFINITY,
+    f64::NEG_INFINITY,
+    f64::NAN,
+];
+
+impl Plan {
+    /// How many calls of each kind were equal; or the first case with a difference.
+    pub fn run(&self, calls: &dyn Calls, seed: u64) -> Result<Tally, Difference> {
+        let mut bench = Bench::new(calls, seed);
+        bounds(&mut bench)?;
+        for _ in 0..self.small {
+            index(&mut bench, 3_000)?;
+            named("drawn levels", damage::drawn(&mut bench))?;
+        }
+        for _ in 0..self.middle {
+            index(&mut bench, 100_000)?;
+        }
+        for number in 0..self.largest as usize {
+            let ids = [random, consecutive, multiples][number % 3](&mut bench.draw, MAX_IDS);
+            let gamma = [1.7, GAMMAS[0], 16.0, gamma(&mut bench.draw)][number % 4];
+            indexed(&mut bench, gamma, &ids)?;
+        }
+        for _ in 0..self.doubled {
+            let ids = doubled(&mut bench.draw, MAX_IDS / 2);
+            indexed(&mut bench, 1.7, &ids)?;
+        }
+        for (from, levels) in self.colliding {
+            let ids = colliding(&mut bench.draw, *from, *levels);
+            indexed(&mut bench, 1.7, &ids)?;
+        }
+        for _ in 0..self.sets {
+            let capacity = capacity(&mut bench);
+            named(&format!("set of {capacity}"), sets::case(&mut bench, capacity))?;
+        }
+        for number in 0..self.largest_sets {
+            let capacity = MAX_BITS_ABOUT[number as usize % MAX_BITS_ABOUT.len()];
+            named(&format!("set of {capacity}"), sets::case(&mut bench, capacity))?;
+        }
+        complete(&bench.equal)?;
+        Ok(bench.equal)
+    }
+}
+
+const MAX_BITS_ABOUT: [u64; 4] = [16_777_216, 16_777_215, 16_777_217, u64::MAX];
+
+/// No sort of answer that document 01 knows is left out.
+fn complete(equal: &Tally) -> Compared {
+    let refusals = [
+        ("build", &[1, 2, 3, 4, 5, 6, 11][..]),
+        ("lookup", &[7, 8, 11]),
+        ("row list", &[7, 11, 12]),
+        ("set call", &[9, 10, 11]),
+    ];
+    let answers = refusals.iter().flat_map(|(kind, numbers)| {
+        let refused = numbers.iter().map(move |number| format!("{kind}, refusal {number}"));
+        refused.chain([format!("{kind}, answered")])
+    });
+    for answer in answers.chain(["lookup, none".to_string()]) {
+        if !equal.contains_key(&answer) {
+            return Err(Difference(format!("no case was a {answer}")));
+        }
+    }
+    Ok(())
+}
+
+/// Gammas and id counts on the other side of their bounds.
+fn bounds(bench: &mut Bench) -> Compared {
+    for gamma in NO_GAMMAS {
+        named(
+            &format!("gamma {gamma:?}"),
+            builds::out_of_bounds(bench, gamma, &[1, 2, 3]),
+        )?;
+    }
+    let many = random(&mut bench.draw, MAX_IDS + 1);
+    named("1048577 ids", builds::out_of_bounds(bench, 1.7, &many))
+}
+
+/// An index of a drawn sort, with damage done to it.
+fn index(bench: &mut Bench, most: u64) -> Compared {
+    let gamma = gamma(&mut bench.draw);
+    let ids = ids(&mut bench.draw, most);
+    indexed(bench, gamma, &ids)
+}
+
+fn indexed(bench: &mut Bench, gamma: f64, ids: &[u64]) -> Compared {
+    let name = format!("gamma {gamma:?}, {} ids from {:?}", ids.len(), ids.first());
+    named(&name, builds::case(bench, gamma, ids))?;
+    named(&name, damage::case(bench, gamma, ids))
+}
+
+fn gamma(draw: &mut Draw) -> f64 {
+    let (least, most) = (GAMMAS[0].to_bits(), 16.0_f64.to_bits());
+    match draw.below(2) {
+        0 => GAMMAS[draw.below(GAMMAS.len() as u64) as usize],
+        _ => f64::from_bits(least + draw.below(most - least + 1)),
+    }
+}
+
+/// So many ids at most, small numbers of them as likely as large ones.
+fn ids(draw: &mut Draw, most: u64) -> Vec<u64> {
+    let count = draw.below(most + 1) >> draw.below(10);
+    let pool = (20 * count).min(MAX_IDS);
+    match draw.below(10) {
+        0 | 1 => random(draw, count),
+        2 | 3 => consecutive(draw, count),
+        4 | 5 => multiples(draw, count),
+        6 => colliding(draw, pool, 2),
+        7 => colliding(draw, pool, 3),
+        8 => repeated(draw),
+        _ => doubled(draw, count / 20),
+    }
+}
+
+/// Around multiples of 64, or any.
+fn capacity(bench: &mut Bench) -> u64 {
+    let most = bench.one_of(&[4, 20]);
+    let near = 64 * bench.draw.below(most) + bench.draw.below(3);
+    match bench.draw.below(3) {
+        0 => bench.draw.below(3_000),
+        _ => near.saturating_sub(1),
+    }
+}
+
+fn named(case: &str, compared: Compared) -> Compared {
+    compared.map_err(|Difference(what)| Difference(format!("{case}: {what}")))
+}

@@ -1,0 +1,43 @@
+//! What the Rust makes of ids.
+
+use crate::bitvector::BitVector;
+use crate::boomphf::{Context, Mphf};
+use std::panic;
+
+/// Levels 0 to 99.
+const LEVELS: u64 = 100;
+
+/// `Mphf::new`, or none where it panics. The panic is not written.
+pub fn build(gamma: f64, ids: &[u64]) -> Option<Mphf<u64>> {
+    let hook = panic::take_hook();
+    panic::set_hook(Box::new(|_| {}));
+    let index = panic::catch_unwind(|| Mphf::new(gamma, ids)).ok();
+    panic::set_hook(hook);
+    index
+}
+
+/// The words that hold a set.
+pub fn words(set: &BitVector) -> Vec<u64> {
+    (0..set.num_words()).map(|word| set.get_word(word)).collect()
+}
+
+/// The sizes of an index's levels; their words, one level after another; their samples likewise.
+pub fn stores(index: &Mphf<u64>) -> [Vec<u64>; 3] {
+    let levels = index.bitvecs.iter();
+    [
+        levels.clone().map(|(level, _)| level.capacity()).collect(),
+        levels.clone().flat_map(|(level, _)| words(level)).collect(),
+        levels.flat_map(|(_, samples)| samples.to_vec()).collect(),
+    ]
+}
+
+/// How many ids remain after level 99, by the Rust's own steps: its panic does not tell.
+pub fn remaining(gamma: f64, ids: &[u64]) -> u64 {
+    let mut ids = ids.to_vec();
+    for level in 0..LEVELS {
+        let mut context = Context::new(std::cmp::max(255, (gamma * ids.len() as f64) as u64), level);
+        ids.iter().for_each(|id| context.find_collisions_sync(id));
+        ids.retain(|id| context.filter(id).is_some());
+    }
+    ids.len() as u64
+}

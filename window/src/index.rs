@@ -1,0 +1,320 @@
+use crate::host;
+use crate::refusal::{answer, Refusal};
+
+/// A gamma that serves most users: about 3 bits an id.
+pub const GAMMA: f64 = 1.7;
+
+/// How many ids an index can have.
+pub const MAX_IDS: usize = 1_048_576;
+
+const MAX_LEVELS: usize = 100;
+const LEAST_BITS: usize = 255;
+const MOST_BITS: usize = 16_777_216;
+
+/// An index of ids: gives each its row.
+#[derive(Clone, Debug, PartialEq, Eq)]
+pub struct Index {
+    /// Id count, level count, 100 sizes.
+    head: [u64; host::HEAD],
+    words: Vec<u64>,
+    samples: Vec<u64>,
+}
+
+/// Where a lookup found an id.
+#[derive(Clone, Copy, Debug, PartialEq, Eq)]
+pub struct Place {
+    pub row: u64,
+    /// The level whose bit gave the row, and the bit's position there.
+    pub level: u64,
+    pub position: u64,
+}
+
+impl Index {
+    /// Builds an index of the ids. Their order makes no difference.
+    ///
+    /// More gamma makes a larger index that is faster to build and to ask; it is above 1.01 and at most 16.
+    ///
+    /// Refused are gamma out of its bounds (1, 2), more than [`MAX_IDS`] ids (3), and ids that remain after the last level (6): an id given twice
+    /// always does, and for different ids it is not to be expected. No other refusal comes: the stores are as large as they need to be.
+    ///
+    /// ```
+    /// use shawltide::{Index, Refusal};
+    /// let index = Index::build(&[30, 10, 20], 2.0)?;
+    /// assert_eq!(index, Index::build(&[10, 20, 30], 2.0)?);
+    /// assert_eq!(index.len(), 3);
+    /// assert_eq!(Index::build(&[10], 1.01), Err(Refusal::GammaTooSmall));
+    /// # Ok::<(), Refusal>(())
+    /// ```
+    pub fn build(ids: &[u64], gamma: f64) -> Result<Index, Refusal> {
+        let first = Room::of_first_level(ids.len(), gamma);
+        match build_in(ids, gamma, first, Room::likely(first)) {
+            Err(Refusal::NoRoomForLevel(_)) => build_in(ids, gamma, first, Room::enough(first)),
+            answer => answer,
+        }
+    }
+
+    /// An index kept elsewhere: the head (id count, level count, 100 sizes), words and samples that [`Index::into_parts`] gave. Any others
+    /// are taken too; then a lookup may be refused with 7 or 8, and the rows that it gives are not those of an index.
+    pub fn from_parts(head: [u64; host::HEAD], words: Vec<u64>, samples: Vec<u64>) -> Index {
+        Index { head, words, samples }
+    }
+
+    /// The head, the words and the samples.
+    pub fn into_parts(self) -> ([u64; host::HEAD], Vec<u64>, Vec<u64>) {
+        (self.head, self.words, self.samples)
+    }
+
+    /// Where the id has its row. An id that is not of the index has none, or gets the row of another.
+    ///
+    /// Refused are only indexes that no build made ([`Index::from_parts`]): with a head that does not fit (7) or a row that cannot be (8).
+    ///
+    /// ```
+    /// use shawltide::Index;
+    /// let index = Index::build(&[10, 20, 30], 2.0)?;
+    /// assert!(index.lookup(20)?.expect("20 is one of the ids").row < 3);
+    /// assert_eq!(Index::build(&[], 2.0)?.lookup(20)?, None);
+    /// # Ok::<(), shawltide::Refusal>(())
+    /// ```
+    pub fn lookup(&self, id: u64) -> Result<Option<Place>, Refusal> {
+        let mut place = [0; host::PLACE];
+        let result = host::lookup(&self.head, &self.words, &self.samples, id, &mut place);
+        let row = answer(result, 0)?;
+        let [level, position] = place;
+        Ok((row != host::NONE).then_some(Place { row, level, position }))
+    }
+
+    /// The row list: at each row the id that lookup sends there.
+    ///
+    /// The ids are those of the index, in any order. Others are refused with 12: too few or too many, one without a row, two on one row.
+    ///
+    /// ```
+    /// use shawltide::{Index, Refusal};
+    /// let index = Index::build(&[10, 20, 30], 2.0)?;
+    /// let rows = index.rows(&[30, 20, 10])?;
+    /// assert_eq!(rows[index.lookup(10)?.unwrap().row as usize], 10);
+    /// assert_eq!(index.rows(&[10, 20]), Err(Refusal::WrongIds));
+    /// # Ok::<(), Refusal>(())
+    /// ```
+    pub fn rows(&self, ids: &[u64]) -> Result<Vec<u64>, Refusal> {
+        let count = self.len().min(MAX_IDS);
+        let mut rows = vec![0; count];
+        let mut marks = vec![0; (count + 63) / 64];
+        let result = host::rows(&self.head, &self.words, &self.samples, ids, &mut rows, &mut marks);
+        answer(result, 0)?;
+        Ok(rows)
+    }
+
+    /// How many ids the index has.
+    pub fn len(&self) -> usize {
+        self.head[0] as usize
+    }
+
+    pub fn is_empty(&self) -> bool {
+        self.len() == 0
+    }
+
+    /// How many levels the index has.
+    pub fn levels(&self) -> usize {
+        self.head[1] as usize
+    }
+
+    /// How many bits the words and the samples take.
+    pub fn bits(&self) -> usize {
+        64 * (self.words.len() + self.samples.len())
+    }
+}
+
+/// Places for words and for samples.
+#[derive(Clone, Copy)]
+struct Room {
+    words: usize,
+    samples: usize,
+}
+
+impl Room {
+    /// What a level of so many bits takes.
+    fn of_level(bits: usize) -> Room {
+        let words = (bits + 63) / 64;
+        Room {
+            words,
+            samples: (words + 7) / 8,
+        }
+    }
+
+    /// What level 0 takes, the largest; the build itself refuses what is out of bounds.
+    fn of_first_level(ids: usize, gamma: f64) -> Room {
+        let bits = (gamma * ids as f64) as usize;
+        Room::of_level(bits.clamp(LEAST_BITS, MOST_BITS))
+    }
+
+    /// What different ids are expected to take: all levels together less than three times the first, but for the smallest.
+    fn likely(first: Room) -> Room {
+        first.times(3).plus(Room::of_level(LEAST_BITS).times(MAX_LEVELS))
+    }
+
+    /// Enough for any ids: no level is larger than the first.
+    fn enough(first: Room) -> Room {
+        first.times(MAX_LEVELS)
+    }
+
+    fn times(self, levels: usize) -> Room {
+        Room {
+            words: levels * self.words,
+            samples: levels * self.samples,
+        }
+    }
+
+    fn plus(self, other: Room) -> Room {
+        Room {
+            words: self.words + other.words,
+            samples: self.samples + other.samples,
+        }
+    }
+}
+
+/// A build in so much room, of which the index keeps what it uses.
+fn build_in(ids: &[u64], gamma: f64, first: Room, room: Room) -> Result<Index, Refusal> {
+    let mut words = vec![0; room.words];
+    let mut samples = vec![0; room.samples];
+    let mut collide = vec![0; first.words];
+    let mut rest = vec![0; ids.len().min(MAX_IDS)];
+    let mut out = [0; host::OUT];
+    let result = host::build(gamma, ids, &mut words, &mut samples, &mut collide, &mut rest, &mut out);
+    answer(result, out[0])?;
+    let mut head = [0; host::HEAD];
+    head.copy_from_slice(&out[1..]);
+    let sizes = head[2..].iter().take(head[1] as usize);
+    let used = sizes.map(|size| Room::of_level(*size as usize)).reduce(Room::plus);
+    let used = used.expect("an index has a level");
+    words.truncate(used.words);
+    samples.truncate(used.samples);
+    words.shrink_to_fit();
+    samples.shrink_to_fit();
+    Ok(Index { head, words, samples })
+}
+
+#[cfg(test)]
+mod tests {
+    use super::*;
+
+    /// Different ids: multiples of an odd number.
+    fn ids(count: u64) -> Vec<u64> {
+        (1..=count).map(|i| i.wrapping_mul(0x9E37_79B9_7F4A_7C15)).collect()
+    }
+
+    #[test]
+    fn each_row_belongs_to_one_id() -> Result<(), Refusal> {
+        for (count, gamma) in [
+            (1, 2.0),
+            (2, 16.0),
+            (171, 1.5),
+            (5_000, 1.0100000000000002),
+            (50_000, GAMMA),
+        ] {
+            let ids = ids(count);
+            let index = Index::build(&ids, gamma)?;
+            let mut owners = vec![0; ids.len()];
+            for id in &ids {
+                let place = index.lookup(*id)?.expect("each id has a row");
+                assert!(place.level < index.levels() as u64);
+                owners[place.row as usize] += 1;
+            }
+            assert!(owners.iter().all(|owners| *owners == 1));
+        }
+        Ok(())
+    }
+
+    #[test]
+    fn the_row_list_is_by_level_and_position() -> Result<(), Refusal> {
+        let ids = ids(3_000);
+        let index = Index::build(&ids, 1.1)?;
+        let rows = index.rows(&ids)?;
+        let places: Vec<Place> = rows
+            .iter()
+            .map(|id| Ok(index.lookup(*id)?.expect("each id has a row")))
+            .collect::<Result<_, Refusal>>()?;
+        assert!(places.iter().map(|place| place.row).eq(0..3_000));
+        let order: Vec<_> = places.iter().map(|place| (place.level, place.position)).collect();
+        assert!(order.windows(2).all(|two| two[0] < two[1]));
+        let mut listed = rows;
+        listed.sort_unstable();
+        let mut wanted = ids;
+        wanted.sort_unstable();
+        assert_eq!(listed, wanted);
+        Ok(())
+    }
+
+    #[test]
+    fn no_ids() -> Result<(), Refusal> {
+        let index = Index::build(&[], GAMMA)?;
+        assert!(index.is_empty());
+        assert_eq!((index.levels(), index.bits()), (1, 64 * 5));
+        assert_eq!(index.lookup(0)?, None);
+        assert_eq!(index.rows(&[])?, []);
+        Ok(())
+    }
+
+    #[test]
+    fn the_order_makes_no_difference() -> Result<(), Refusal> {
+        let mut ids = ids(4_000);
+        let index = Index::build(&ids, GAMMA)?;
+        ids.reverse();
+        ids.swap(17, 3_000);
+        assert_eq!(Index::build(&ids, GAMMA)?, index);
+        Ok(())
+    }
+
+    #[test]
+    fn foreign_ids_get_none_or_a_row_below_the_count() -> Result<(), Refusal> {
+        let index = Index::build(&ids(1_000), GAMMA)?;
+        let found: Vec<_> = (0..1_000).map(|id| index.lookup(id)).collect::<Result<_, _>>()?;
+        assert!(found.iter().flatten().all(|place| place.row < 1_000));
+        assert!(found.contains(&None));
+        Ok(())
+    }
+
+    #[test]
+    fn refused_builds() {
+        for gamma in [1.01, 0.0, -2.0, f64::NAN, f64::NEG_INFINITY] {
+            assert_eq!(Index::build(&[1], gamma), Err(Refusal::GammaTooSmall));
+        }
+        for gamma in [16.000000000000004, f64::MAX, f64::INFINITY] {
+            assert_eq!(Index::build(&[1], gamma), Err(Refusal::GammaTooLarge));
+        }
+        assert_eq!(Index::build(&vec![0; MAX_IDS + 1], GAMMA), Err(Refusal::TooManyIds));
+        assert_eq!(Index::build(&[7, 8, 7], GAMMA), Err(Refusal::IdsRemain(2)));
+    }
+
+    #[test]
+    fn room_is_always_enough() {
+        let mut twice = ids(2_000);
+        twice.extend_from_within(..);
+        let first = Room::of_first_level(twice.len(), GAMMA);
+        let tried = build_in(&twice, GAMMA, first, Room::likely(first));
+        assert!(matches!(tried, Err(Refusal::NoRoomForLevel(_))));
+        assert_eq!(Index::build(&twice, GAMMA), Err(Refusal::IdsRemain(4_000)));
+    }
+
+    #[test]
+    fn an_index_kept_elsewhere() -> Result<(), Refusal> {
+        let ids = ids(600);
+        let index = Index::build(&ids, GAMMA)?;
+        let (head, words, samples) = index.clone().into_parts();
+        assert_eq!(Index::from_parts(head, words.clone(), samples.clone()), index);
+
+        let short = Index::from_parts(head, words[1..].to_vec(), samples.clone());
+        assert_eq!(short.lookup(ids[0]), Err(Refusal::UnfitHead));
+        assert_eq!(short.rows(&ids), Err(Refusal::UnfitHead));
+
+        let mut endless = head;
+        endless[0] = u64::MAX;
+        let endless = Index::from_parts(endless, words.clone(), samples.clone());
+        assert_eq!(endless.rows(&ids), Err(Refusal::UnfitHead));
+
+        let high = samples.iter().map(|_| 1_048_577).collect();
+        let damaged = Index::from_parts(head, words, high);
+        assert_eq!(damaged.lookup(ids[0]), Err(Refusal::UnfitRow));
+        assert_eq!(damaged.rows(&ids), Err(Refusal::WrongIds));
+        Ok(())
+    }
+}

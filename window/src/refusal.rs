@@ -1,0 +1,141 @@
+use crate::host::NONE;
+use std::{error, fmt};
+
+/// Why a call was refused: document 01's table, a case for each number, with the value that it carries.
+///
+/// ```
+/// use shawltide::{Index, Refusal};
+/// let refusal = Index::build(&[7, 7], 2.0).unwrap_err();
+/// assert_eq!(refusal, Refusal::IdsRemain(2));
+/// assert_eq!(refusal.number(), 6);
+/// assert_eq!(refusal.to_string(), "refusal 6: 2 ids remain after the last level, as where an id is given twice");
+/// ```
+#[derive(Clone, Copy, Debug, PartialEq, Eq)]
+#[non_exhaustive]
+pub enum Refusal {
+    /// 1: gamma is not above 1.01, or is NaN.
+    GammaTooSmall,
+    /// 2: gamma is above 16.
+    GammaTooLarge,
+    /// 3: more than 1,048,576 ids.
+    TooManyIds,
+    /// 4: the rest store or the collide store of a build is too short.
+    ShortWorkStore,
+    /// 5: the word store or the sample store of a build has no room for this level.
+    NoRoomForLevel(u64),
+    /// 6: so many ids remain after level 99.
+    IdsRemain(u64),
+    /// 7: the head is not one of an index, or its words or samples are too short for it.
+    UnfitHead,
+    /// 8: a lookup finds a set bit whose sample or row cannot be.
+    UnfitRow,
+    /// 9: the bit is not below the capacity.
+    BitOutside,
+    /// 10: the words do not hold a set of the capacity, or the capacities are unequal.
+    UnfitSet,
+    /// 11: a store for answers is too short.
+    ShortOutput,
+    /// 12: the ids of a row list are not those of the index.
+    WrongIds,
+}
+
+impl Refusal {
+    /// The number in document 01's table.
+    pub fn number(self) -> u64 {
+        match self {
+            Refusal::GammaTooSmall => 1,
+            Refusal::GammaTooLarge => 2,
+            Refusal::TooManyIds => 3,
+            Refusal::ShortWorkStore => 4,
+            Refusal::NoRoomForLevel(_) => 5,
+            Refusal::IdsRemain(_) => 6,
+            Refusal::UnfitHead => 7,
+            Refusal::UnfitRow => 8,
+            Refusal::BitOutside => 9,
+            Refusal::UnfitSet => 10,
+            Refusal::ShortOutput => 11,
+            Refusal::WrongIds => 12,
+        }
+    }
+
+    /// The refusal of that number, with the value that 5 or 6 carries.
+    pub fn from_number(number: u64, value: u64) -> Option<Refusal> {
+        Some(match number {
+            1 => Refusal::GammaTooSmall,
+            2 => Refusal::GammaTooLarge,
+            3 => Refusal::TooManyIds,
+            4 => Refusal::ShortWorkStore,
+            5 => Refusal::NoRoomForLevel(value),
+            6 => Refusal::IdsRemain(value),
+            7 => Refusal::UnfitHead,
+            8 => Refusal::UnfitRow,
+            9 => Refusal::BitOutside,
+            10 => Refusal::UnfitSet,
+            11 => Refusal::ShortOutput,
+            12 => Refusal::WrongIds,
+            _ => return None,
+        })
+    }
+}
+
+impl fmt::Display for Refusal {
+    fn fmt(&self, f: &mut fmt::Formatter) -> fmt::Result {
+        write!(f, "refusal {}: ", self.number())?;
+        match self {
+            Refusal::GammaTooSmall => write!(f, "gamma is not above 1.01"),
+            Refusal::GammaTooLarge => write!(f, "gamma is above 16"),
+            Refusal::TooManyIds => write!(f, "there are more than 1048576 ids"),
+            Refusal::ShortWorkStore => write!(f, "the rest store or the collide store is too short"),
+            Refusal::NoRoomForLevel(level) => write!(f, "the words or the samples have no room for level {level}"),
+            Refusal::IdsRemain(ids) => {
+                write!(
+                    f,
+                    "{ids} ids remain after the last level, as where an id is given twice"
+                )
+            }
+            Refusal::UnfitHead => write!(f, "the head does not fit its bounds, its words or its samples"),
+            Refusal::UnfitRow => write!(f, "the index is damaged: the id's sample or row cannot be"),
+            Refusal::BitOutside => write!(f, "the bit is not below the capacity"),
+            Refusal::UnfitSet => write!(f, "the words do not hold a set of the capacity"),
+            Refusal::ShortOutput => write!(f, "a store for the answer is too short"),
+            Refusal::WrongIds => write!(f, "the ids are not those of the index"),
+        }
+    }
+}
+
+impl error::Error for Refusal {}
+
+/// What a call's result says: a value or none as it is, or the refusal, with what it carries.
+pub(crate) fn answer(result: u64, carried: u64) -> Result<u64, Refusal> {
+    Refusal::from_number(NONE - result, carried).map_or(Ok(result), Err)
+}
+
+#[cfg(test)]
+mod tests {
+    use super::*;
+
+    #[test]
+    fn numbers_come_back() {
+        for number in 1..=12 {
+            let refusal = Refusal::from_number(number, 30).expect("01's table has it");
+            assert_eq!(refusal.number(), number);
+            assert_eq!(answer(NONE - number, 30), Err(refusal));
+            assert!(refusal.to_string().starts_with(&format!("refusal {number}: ")));
+        }
+        assert_eq!(Refusal::from_number(0, 30), None);
+        assert_eq!(Refusal::from_number(13, 30), None);
+    }
+
+    #[test]
+    fn values_stay() {
+        for value in [0, 1, 16_777_216, NONE - 13, NONE] {
+            assert_eq!(answer(value, 30), Ok(value));
+        }
+    }
+
+    #[test]
+    fn five_and_six_carry_a_value() {
+        assert!(Refusal::NoRoomForLevel(99).to_string().ends_with("level 99"));
+        assert!(Refusal::IdsRemain(17).to_string().contains(" 17 ids "));
+    }
+}
