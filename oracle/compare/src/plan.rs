@@ -66,40 +66,54 @@ impl Plan {
     pub fn run(&self, calls: &dyn Calls, seed: u64) -> Result<Tally, Difference> {
         let mut bench = Bench::new(calls, seed);
         bounds(&mut bench)?;
-        for _ in 0..self.small {
-            index(&mut bench, 3_000)?;
-            named("drawn levels", damage::drawn(&mut bench))?;
-        }
-        for _ in 0..self.middle {
-            index(&mut bench, 100_000)?;
-        }
-        for number in 0..self.largest as usize {
-            let ids = [random, consecutive, multiples][number % 3](&mut bench.draw, MAX_IDS);
-            let gamma = [1.7, GAMMAS[0], 16.0, gamma(&mut bench.draw)][number % 4];
-            indexed(&mut bench, gamma, &ids)?;
-        }
-        for _ in 0..self.doubled {
-            let ids = doubled(&mut bench.draw, MAX_IDS / 2);
-            indexed(&mut bench, 1.7, &ids)?;
-        }
-        for (from, levels) in self.colliding {
-            let ids = colliding(&mut bench.draw, *from, *levels);
-            indexed(&mut bench, 1.7, &ids)?;
-        }
-        for _ in 0..self.sets {
-            let capacity = capacity(&mut bench);
-            named(&format!("set of {capacity}"), sets::case(&mut bench, capacity))?;
-        }
-        for number in 0..self.largest_sets {
-            let capacity = MAX_BITS_ABOUT[number as usize % MAX_BITS_ABOUT.len()];
-            named(&format!("set of {capacity}"), sets::case(&mut bench, capacity))?;
-        }
+        self.drawn(&mut bench)?;
+        self.largest(&mut bench)?;
+        self.crafted(&mut bench)?;
+        self.sets(&mut bench)?;
         complete(&bench.equal)?;
         Ok(bench.equal)
     }
+
+    fn drawn(&self, bench: &mut Bench) -> Compared {
+        for _ in 0..self.small {
+            index(bench, 3_000)?;
+            named("drawn levels", damage::drawn(bench))?;
+        }
+        (0..self.middle).try_for_each(|_| index(bench, 100_000))
+    }
+
+    fn largest(&self, bench: &mut Bench) -> Compared {
+        for number in 0..self.largest as usize {
+            let ids = [random, consecutive, multiples][number % 3](&mut bench.draw, MAX_IDS);
+            let gamma = [1.7, GAMMAS[0], 16.0, gamma(&mut bench.draw)][number % 4];
+            indexed(bench, gamma, &ids)?;
+        }
+        Ok(())
+    }
+
+    fn crafted(&self, bench: &mut Bench) -> Compared {
+        for _ in 0..self.doubled {
+            let ids = doubled(&mut bench.draw, MAX_IDS / 2);
+            indexed(bench, 1.7, &ids)?;
+        }
+        self.colliding.iter().try_for_each(|(from, levels)| {
+            let ids = colliding(&mut bench.draw, *from, *levels);
+            indexed(bench, 1.7, &ids)
+        })
+    }
+
+    fn sets(&self, bench: &mut Bench) -> Compared {
+        let drawn: Vec<u64> = (0..self.sets).map(|_| capacity(bench)).collect();
+        let largest = LARGEST_CAPACITIES.iter().cycle().take(self.largest_sets as usize);
+        for capacity in drawn.iter().chain(largest) {
+            named(&format!("set of {capacity}"), sets::case(bench, *capacity))?;
+        }
+        Ok(())
+    }
 }
 
-const MAX_BITS_ABOUT: [u64; 4] = [16_777_216, 16_777_215, 16_777_217, u64::MAX];
+/// On both sides of the bound.
+const LARGEST_CAPACITIES: [u64; 4] = [16_777_216, 16_777_215, 16_777_217, u64::MAX];
 
 /// No sort of answer that document 01 knows is left out.
 fn complete(equal: &Tally) -> Compared {
