@@ -60,10 +60,6 @@ pub fn parse_id(text: &str) -> Result<u64, Bad> {
     u64::from_str_radix(digits, radix).map_err(|_| Bad::TooLarge(text.to_string()))
 }
 
-pub fn parse_gamma(text: &str) -> Option<f64> {
-    text.parse().ok()
-}
-
 impl fmt::Display for Bad {
     fn fmt(&self, f: &mut fmt::Formatter) -> fmt::Result {
         match self {

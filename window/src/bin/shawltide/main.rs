@@ -3,9 +3,11 @@
 mod input;
 mod report;
 
-use input::{parse_gamma, parse_id, read_ids};
+use input::{parse_id, read_ids};
 use report::Report;
-use shawltide::{Index, Refusal, GAMMA};
+use shawltide::{Index, GAMMA};
+use std::ffi::{OsStr, OsString};
+use std::fmt::Display;
 use std::fs::File;
 use std::io::{self, BufReader, BufWriter, ErrorKind, Write};
 use std::process::ExitCode;
@@ -13,10 +15,10 @@ use std::time::Instant;
 
 const HELP: &str = include_str!("help.txt");
 
-/// What was asked, and the words after it.
+/// What was asked, and the words after it. A file's name need not be text.
 struct Asked {
-    command: String,
-    words: Vec<String>,
+    command: OsString,
+    words: Vec<OsString>,
     gamma: f64,
 }
 
@@ -24,7 +26,7 @@ struct Asked {
 struct Failure(String, u8);
 
 fn main() -> ExitCode {
-    match asked(std::env::args().skip(1)).and_then(run) {
+    match asked(std::env::args_os().skip(1)).and_then(run) {
         Ok(()) => ExitCode::SUCCESS,
         Err(Failure(message, status)) => {
             eprintln!("shawltide: {message}");
@@ -38,25 +40,29 @@ fn wrong_usage(message: impl Into<String>) -> Failure {
 }
 
 /// `--gamma G` may stand anywhere after the command.
-fn asked(mut arguments: impl Iterator<Item = String>) -> Result<Asked, Failure> {
+fn asked(mut arguments: impl Iterator<Item = OsString>) -> Result<Asked, Failure> {
     let command = arguments.next().ok_or_else(|| wrong_usage("no command is given"))?;
     let mut words = Vec::new();
     let mut gamma = GAMMA;
     while let Some(word) = arguments.next() {
-        if word == "--gamma" {
-            let text = arguments.next().ok_or_else(|| wrong_usage("--gamma needs a number"))?;
-            gamma = parse_gamma(&text).ok_or_else(|| wrong_usage(format!("--gamma {text} is not a number")))?;
-        } else if word.starts_with("--") {
-            return Err(wrong_usage(format!("{word} is not known")));
-        } else {
-            words.push(word);
+        match word.to_str() {
+            Some("--gamma") => gamma = gamma_of(arguments.next())?,
+            Some(option) if option.starts_with("--") => return Err(wrong_usage(format!("{option} is not known"))),
+            _ => words.push(word),
         }
     }
     Ok(Asked { command, words, gamma })
 }
 
+fn gamma_of(word: Option<OsString>) -> Result<f64, Failure> {
+    let word = word.ok_or_else(|| wrong_usage("--gamma needs a number"))?;
+    let text = word.to_string_lossy();
+    text.parse()
+        .map_err(|_| wrong_usage(format!("--gamma {text} is not a number")))
+}
+
 fn run(asked: Asked) -> Result<(), Failure> {
-    match (asked.command.as_str(), asked.words.as_slice()) {
+    match (&*asked.command.to_string_lossy(), asked.words.as_slice()) {
         ("help" | "--help" | "-h", _) => written(|out| out.write_all(HELP.as_bytes())),
         ("rows", [file]) => rows(file, asked.gamma),
         ("rows", _) => Err(wrong_usage("rows needs one FILE")),
@@ -66,17 +72,17 @@ fn run(asked: Asked) -> Result<(), Failure> {
     }
 }
 
-fn rows(file: &str, gamma: f64) -> Result<(), Failure> {
+fn rows(file: &OsStr, gamma: f64) -> Result<(), Failure> {
     let report = report(file, gamma)?;
     written(|out| report.rows(out))?;
     eprintln!("{}", report.summary());
     Ok(())
 }
 
-fn lookup(file: &str, asked: &[String], gamma: f64) -> Result<(), Failure> {
+fn lookup(file: &OsStr, asked: &[OsString], gamma: f64) -> Result<(), Failure> {
     let asked: Vec<u64> = asked
         .iter()
-        .map(|text| parse_id(text).map_err(|bad| wrong_usage(bad.to_string())))
+        .map(|word| parse_id(&word.to_string_lossy()).map_err(|bad| wrong_usage(bad.to_string())))
         .collect::<Result<_, _>>()?;
     let report = report(file, gamma)?;
     written(|out| report.lookups(&asked, out))?;
@@ -85,20 +91,19 @@ fn lookup(file: &str, asked: &[String], gamma: f64) -> Result<(), Failure> {
 }
 
 /// The index of a file's ids and what there is to say about it.
-fn report(file: &str, gamma: f64) -> Result<Report, Failure> {
-    let bad = |what: String| Failure(format!("{file}: {what}"), 1);
-    let ids = match file {
-        "-" => read_ids(BufReader::new(io::stdin())),
-        path => File::open(path)
-            .map_err(|error| bad(error.to_string()))
-            .map(|file| read_ids(BufReader::new(file)))?,
+fn report(file: &OsStr, gamma: f64) -> Result<Report, Failure> {
+    let bad = |what: &dyn Display| Failure(format!("{}: {what}", file.to_string_lossy()), 1);
+    let ids = if file == "-" {
+        read_ids(BufReader::new(io::stdin()))
+    } else {
+        let file = File::open(file).map_err(|error| bad(&error))?;
+        read_ids(BufReader::new(file))
     }
-    .map_err(|error| bad(error.to_string()))?;
+    .map_err(|error| bad(&error))?;
     let start = Instant::now();
-    let refused = |refusal: Refusal| bad(refusal.to_string());
-    let index = Index::build(&ids, gamma).map_err(refused)?;
+    let index = Index::build(&ids, gamma).map_err(|refusal| bad(&refusal))?;
     let time = start.elapsed();
-    let rows = index.rows(&ids).map_err(refused)?;
+    let rows = index.rows(&ids).map_err(|refusal| bad(&refusal))?;
     Ok(Report { index, rows, time })
 }
 
