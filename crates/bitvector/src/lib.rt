@@ -272,7 +272,7 @@ pub fn fill(words: &mut [u64], n: usize, word: u64)
 }
 
 // How many bits are set in the first n words.
-pub fn count_bits(words: &[u64], n: usize) -> u64
+fn count_bits(words: &[u64], n: usize) -> u64
     requires { ⌜ (n ≤ length (now words)) × (n ≤ wordsFor maxBits) ⌝ }
     ensures { λ r. ⌜ r ≡ rank (has (now (words .entry))) (64 * n) ⌝ }
 {

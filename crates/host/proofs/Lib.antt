@@ -1,3 +1,4 @@
 pub mod Answers
 pub mod Heads
 pub mod Flats
+pub mod Readings

@@ -2,11 +2,18 @@
 use Prim.Native.Nat.{ℕ, _-_}
 use mathlib.Core.Bool.{cond}
 use mathlib.Core.List.{[]}
-use lib.Dec.{eqb}
+use lib.Dec.{eqb, leb}
+use Rattle.bounds.specs.Bounds.{maxBits}
+use Rattle.refusal.specs.Table.{numberOf}
 use Rattle.bitvector.specs.declared.Made.{Made}
+use Rattle.bitvector.specs.declared.Made.the-variants as M
 use Rattle.bitvector.specs.declared.Said.{Said}
+use Rattle.bitvector.specs.declared.Said.the-variants as S
 use Rattle.bitvector.specs.declared.Counted.{Counted}
+use Rattle.bitvector.specs.declared.Counted.the-variants as C
 use Rattle.bitvector.specs.Calls.{Outcome, made, said, counted}
+use Rattle.mphf.specs.declared.finding.Found.{Found}
+use Rattle.mphf.specs.declared.finding.Found.the-variants as F
 use Rattle.mphf.specs.Lookup.{Answer, found, nothing, refused}
 
 abbrev pub noneNumber : ℕ
@@ -41,3 +48,32 @@ ofSaid answer = ofOutcome (said answer [])
 
 abbrev pub ofCounted : Counted → ℕ
 ofCounted answer = ofOutcome (counted answer [])
+
+-- ---- how a host reads a number: up to the bit bound it is a value. proofs/Readings.antt shows that no call's answer is read as another.
+
+pub data Reading : Type 0 where
+  value : ℕ → Reading
+  none : Reading
+  refusal : ℕ → Reading
+
+unfoldable pub reading : ℕ → Reading
+reading n = cond (leb n maxBits) (value n) (cond (eqb n noneNumber) none (refusal (noneNumber - n)))
+
+-- what has to be read of each answer
+abbrev pub toldMade : Made → Reading
+toldMade M.Done = value 0
+toldMade (M.Refused r) = refusal (numberOf r)
+
+abbrev pub toldSaid : Said → Reading
+toldSaid S.Yes = value 1
+toldSaid S.No = value 0
+toldSaid (S.Refused r) = refusal (numberOf r)
+
+abbrev pub toldCounted : Counted → Reading
+toldCounted (C.Count n) = value n
+toldCounted (C.Refused r) = refusal (numberOf r)
+
+abbrev pub toldFound : Found → Reading
+toldFound (F.Row p) = value (p .row)
+toldFound F.None = none
+toldFound (F.Refused r) = refusal (numberOf r)

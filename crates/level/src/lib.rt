@@ -12,7 +12,7 @@ use bitvector::has_bit;
 use mixer::hashmod;
 
 // Marks one id: its bit is set in the level where it is met first, in collide where it is met again.
-pub fn mark_one(level: u64, size: u64, id: u64, words: &mut [u64], collide: &mut [u64])
+fn mark_one(level: u64, size: u64, id: u64, words: &mut [u64], collide: &mut [u64])
     requires { ⌜ Ready size (now words) (now collide) ⌝ }
     ensures { λ _. ⌜ stores (now (words .exit)) (now (collide .exit))
         ≡ markOne (position level size) (stores (now (words .entry)) (now (collide .entry))) id ⌝ }
@@ -24,7 +24,7 @@ pub fn mark_one(level: u64, size: u64, id: u64, words: &mut [u64], collide: &mut
 }
 
 // Marks each id.
-pub fn mark(level: u64, size: u64, ids: &[u64], words: &mut [u64], collide: &mut [u64])
+fn mark(level: u64, size: u64, ids: &[u64], words: &mut [u64], collide: &mut [u64])
     requires { ⌜ Ready size (now words) (now collide) ⌝ }
     ensures { λ _. ⌜ stores (now (words .exit)) (now (collide .exit))
         ≡ markAll (position level size) (stores (now (words .entry)) (now (collide .entry))) (now (ids .entry)) ⌝ }
@@ -35,7 +35,7 @@ pub fn mark(level: u64, size: u64, ids: &[u64], words: &mut [u64], collide: &mut
 }
 
 // Filters one id: whether it goes on. If so, its bit is cleared.
-pub fn filter_one(level: u64, size: u64, id: u64, words: &mut [u64], collide: &[u64]) -> bool
+fn filter_one(level: u64, size: u64, id: u64, words: &mut [u64], collide: &[u64]) -> bool
     requires { ⌜ Ready size (now words) (now collide) ⌝ }
     ensures { λ r. ⌜ OneFiltered (position level size) (now (collide .entry)) (now (words .entry)) id r (now (words .exit)) ⌝ }
 {
@@ -48,7 +48,7 @@ pub fn filter_one(level: u64, size: u64, id: u64, words: &mut [u64], collide: &[
 }
 
 // Filters the first `count` ids of the rest store. Those that go on move to its front, in order; their number is answered.
-pub fn filter(
+fn filter(
     level: u64,
     size: u64,
     count: usize,
