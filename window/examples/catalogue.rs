@@ -1,6 +1,6 @@
 //! A catalogue's front end in small: paths have ids, an index gives each id a row, and a file's record stands at its row.
 //!
-//!     tools/cargo-x86-64 run --example catalogue --manifest-path window/Cargo.toml --target-dir target/window
+//!     tools/cargo-x86-64 window run --example catalogue
 
 use shawltide::{Index, Refusal, GAMMA};
 
