@@ -26,8 +26,13 @@ compile_error!("libhost.a is for x86-64: tools/cargo-x86-64 builds for it on oth
 pub mod host;
 mod index;
 mod refusal;
+mod repeat;
 mod set;
 
 pub use index::{Index, Place, GAMMA, MAX_IDS};
 pub use refusal::Refusal;
+pub use repeat::first_repeat;
 pub use set::{BitSet, MAX_BITS};
+
+/// The form in which an index is kept: a head of 102 numbers, words and samples. A version that makes indexes of another form has another number here.
+pub const FORM: u64 = 1;

@@ -21,6 +21,9 @@ use std::process::ExitCode;
 /// What the cases are drawn from.
 const SEED: u64 = 0x7368_6177_6C00;
 
+/// The words that are known; `tools/compare` reads them too, and itself runs the tests.
+const USAGE: &str = include_str!("../usage.txt");
+
 fn main() -> ExitCode {
     let words: Vec<String> = std::env::args().skip(1).collect();
     let words: Vec<&str> = words.iter().map(String::as_str).collect();
@@ -29,7 +32,10 @@ fn main() -> ExitCode {
         ["long"] => compare(&plan::LONG),
         ["speed"] => speed::measure(),
         ["rows", file, gamma] => rows::write(file, gamma),
-        _ => Err("usage: compare quick | long | speed | rows FILE GAMMA".into()),
+        _ => {
+            eprint!("{USAGE}");
+            return ExitCode::from(2);
+        }
     };
     match ended {
         Ok(()) => ExitCode::SUCCESS,
