@@ -16,7 +16,10 @@ fn main() {
     }
     println!("cargo:rustc-link-search=native={}", folder.display());
     println!("cargo:rustc-link-lib=static=host");
-    println!("cargo:rustc-env=SHAWLTIDE_TOOLCHAIN={}", toolchain(folder.join("libhost.id")));
+    println!(
+        "cargo:rustc-env=SHAWLTIDE_TOOLCHAIN={}",
+        toolchain(folder.join("libhost.id"))
+    );
 }
 
 /// What the toolchain calls itself, or `unknown` where no file says it.

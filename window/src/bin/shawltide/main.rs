@@ -2,116 +2,156 @@
 
 mod input;
 mod report;
+mod streams;
+mod words;
 
-use input::{parse_id, read_ids};
+use input::{read_ids, Lines};
 use report::Report;
-use shawltide::{Index, GAMMA};
+use shawltide::{Index, FORM};
 use std::ffi::{OsStr, OsString};
 use std::fmt::Display;
 use std::fs::File;
-use std::io::{self, BufReader, BufWriter, ErrorKind, Write};
+use std::io::{self, BufWriter, ErrorKind, Write};
 use std::process::ExitCode;
 use std::time::Instant;
+use streams::{say, Progress};
+use words::{Asked, Options, Wanted};
 
 const HELP: &str = include_str!("help.txt");
 
-/// What was asked, and the words after it. A file's name need not be text.
-struct Asked {
-    command: OsString,
-    words: Vec<OsString>,
-    gamma: f64,
+/// Why the command ends before its end.
+#[derive(Debug, PartialEq)]
+pub enum Failure {
+    /// The words are wrong.
+    Usage(String),
+    /// Something cannot be read, built or written.
+    Failed(String),
+    /// Nobody reads what is written.
+    Unread,
 }
 
-/// Why the command ends without success: the message, and the exit status.
-struct Failure(String, u8);
+/// How a command ended that came to its end.
+enum Ended {
+    Done,
+    NoMember,
+}
 
+impl Failure {
+    fn usage(what: impl Display) -> Failure {
+        Failure::Usage(format!("{what} (see `shawltide help`)"))
+    }
+
+    fn of(which: &OsStr, what: impl Display) -> Failure {
+        Failure::Failed(format!("{}: {what}", which.to_string_lossy()))
+    }
+}
+
+/// A failure to write to standard output.
+impl From<io::Error> for Failure {
+    fn from(error: io::Error) -> Failure {
+        match error.kind() {
+            ErrorKind::BrokenPipe => Failure::Unread,
+            _ => Failure::of(OsStr::new("standard output"), error),
+        }
+    }
+}
+
+/// The exit statuses. There is one more, 4, with which `./shawltide` says that there is no program.
 fn main() -> ExitCode {
-    match asked(std::env::args_os().skip(1)).and_then(run) {
-        Ok(()) => ExitCode::SUCCESS,
-        Err(Failure(message, status)) => {
-            eprintln!("shawltide: {message}");
-            ExitCode::from(status)
+    let words: Vec<OsString> = std::env::args_os().skip(1).collect();
+    let (status, message) = match words::asked(&words).and_then(run) {
+        Ok(Ended::Done) | Err(Failure::Unread) => return ExitCode::SUCCESS,
+        Ok(Ended::NoMember) => return ExitCode::from(1),
+        Err(Failure::Usage(message)) => (2, message),
+        Err(Failure::Failed(message)) => (3, message),
+    };
+    say(&format!("shawltide: {message}"));
+    ExitCode::from(status)
+}
+
+fn run(asked: Asked) -> Result<Ended, Failure> {
+    let mut out = BufWriter::new(streams::output()?);
+    match asked {
+        Asked::Help => write(HELP, &mut out),
+        Asked::Version => write(&version(), &mut out),
+        Asked::Rows(file, options) => rows(&file, &options, &mut out),
+        Asked::Lookup(file, wanted, options) => lookup(&file, wanted, &options, &mut out),
+    }
+}
+
+fn write(text: &str, out: &mut dyn Write) -> Result<Ended, Failure> {
+    out.write_all(text.as_bytes())?;
+    out.flush()?;
+    Ok(Ended::Done)
+}
+
+fn version() -> String {
+    let (version, toolchain) = (env!("CARGO_PKG_VERSION"), env!("SHAWLTIDE_TOOLCHAIN"));
+    format!("shawltide {version}\nform of the index: {FORM}\nproved with: {toolchain}\n")
+}
+
+fn rows(file: &OsStr, options: &Options, out: &mut dyn Write) -> Result<Ended, Failure> {
+    let report = report(file, options)?;
+    report.rows(out)?;
+    out.flush()?;
+    summary(&report, options);
+    Ok(Ended::Done)
+}
+
+fn lookup(file: &OsStr, wanted: Wanted, options: &Options, out: &mut dyn Write) -> Result<Ended, Failure> {
+    let report = report(file, options)?;
+    let mut members = 0;
+    match wanted {
+        Wanted::Given(ids) => {
+            for id in ids {
+                members += u64::from(report.lookup(id, out)?);
+            }
+        }
+        Wanted::FromInput => members = asked_on_input(&report, out)?,
+    }
+    out.flush()?;
+    summary(&report, options);
+    Ok(if members == 0 { Ended::NoMember } else { Ended::Done })
+}
+
+/// Looks up the ids of standard input, and counts the members. What was asked is answered before more is waited for.
+fn asked_on_input(report: &Report, out: &mut dyn Write) -> Result<u64, Failure> {
+    let bad = |what: &dyn Display| Failure::of(OsStr::new("-"), what);
+    let mut lines = Lines::new(streams::input().map_err(|error| bad(&error))?);
+    let mut members = 0;
+    loop {
+        if lines.waits() {
+            out.flush()?;
+        }
+        match lines.next_id().map_err(|error| bad(&error))? {
+            Some(id) => members += u64::from(report.lookup(id, out)?),
+            None => return Ok(members),
         }
     }
 }
 
-fn wrong_usage(message: impl Into<String>) -> Failure {
-    Failure(message.into() + " (see `shawltide help`)", 2)
-}
-
-/// `--gamma G` may stand anywhere after the command.
-fn asked(mut arguments: impl Iterator<Item = OsString>) -> Result<Asked, Failure> {
-    let command = arguments.next().ok_or_else(|| wrong_usage("no command is given"))?;
-    let mut words = Vec::new();
-    let mut gamma = GAMMA;
-    while let Some(word) = arguments.next() {
-        match word.to_str() {
-            Some("--gamma") => gamma = gamma_of(arguments.next())?,
-            Some(option) if option.starts_with("--") => return Err(wrong_usage(format!("{option} is not known"))),
-            _ => words.push(word),
-        }
+fn summary(report: &Report, options: &Options) {
+    if !options.quiet {
+        say(&report.summary());
     }
-    Ok(Asked { command, words, gamma })
-}
-
-fn gamma_of(word: Option<OsString>) -> Result<f64, Failure> {
-    let word = word.ok_or_else(|| wrong_usage("--gamma needs a number"))?;
-    let text = word.to_string_lossy();
-    text.parse()
-        .map_err(|_| wrong_usage(format!("--gamma {text} is not a number")))
-}
-
-fn run(asked: Asked) -> Result<(), Failure> {
-    match (&*asked.command.to_string_lossy(), asked.words.as_slice()) {
-        ("help" | "--help" | "-h", _) => written(|out| out.write_all(HELP.as_bytes())),
-        ("rows", [file]) => rows(file, asked.gamma),
-        ("rows", _) => Err(wrong_usage("rows needs one FILE")),
-        ("lookup", [file, ids @ ..]) if !ids.is_empty() => lookup(file, ids, asked.gamma),
-        ("lookup", _) => Err(wrong_usage("lookup needs a FILE and an ID")),
-        (command, _) => Err(wrong_usage(format!("{command} is not a command"))),
-    }
-}
-
-fn rows(file: &OsStr, gamma: f64) -> Result<(), Failure> {
-    let report = report(file, gamma)?;
-    written(|out| report.rows(out))?;
-    eprintln!("{}", report.summary());
-    Ok(())
-}
-
-fn lookup(file: &OsStr, asked: &[OsString], gamma: f64) -> Result<(), Failure> {
-    let asked: Vec<u64> = asked
-        .iter()
-        .map(|word| parse_id(&word.to_string_lossy()).map_err(|bad| wrong_usage(bad.to_string())))
-        .collect::<Result<_, _>>()?;
-    let report = report(file, gamma)?;
-    written(|out| report.lookups(&asked, out))?;
-    eprintln!("{}", report.summary());
-    Ok(())
 }
 
 /// The index of a file's ids and what there is to say about it.
-fn report(file: &OsStr, gamma: f64) -> Result<Report, Failure> {
-    let bad = |what: &dyn Display| Failure(format!("{}: {what}", file.to_string_lossy()), 1);
-    let ids = if file == "-" {
-        read_ids(BufReader::new(io::stdin()))
+fn report(file: &OsStr, options: &Options) -> Result<Report, Failure> {
+    let bad = |what: &dyn Display| Failure::of(file, what);
+    let typed = file == "-" && streams::input_is_terminal();
+    let mut progress = Progress::new(options.quiet || typed);
+    let input = if file == "-" {
+        streams::input()
     } else {
-        let file = File::open(file).map_err(|error| bad(&error))?;
-        read_ids(BufReader::new(file))
-    }
-    .map_err(|error| bad(&error))?;
+        File::open(file)
+    };
+    let lines = Lines::new(input.map_err(|error| bad(&error))?);
+    let ids = read_ids(lines, |ids| progress.reading(ids)).map_err(|error| bad(&error))?;
+    progress.building(ids.len());
     let start = Instant::now();
-    let index = Index::build(&ids, gamma).map_err(|refusal| bad(&refusal))?;
+    let index = Index::build(&ids, options.gamma).map_err(|refusal| bad(&refusal))?;
     let time = start.elapsed();
     let rows = index.rows(&ids).map_err(|refusal| bad(&refusal))?;
     Ok(Report { index, rows, time })
-}
-
-/// Writes to standard output. That nobody reads on is no failure.
-fn written(write: impl FnOnce(&mut dyn Write) -> io::Result<()>) -> Result<(), Failure> {
-    let mut out = BufWriter::new(io::stdout());
-    match write(&mut out).and_then(|()| out.flush()) {
-        Err(error) if error.kind() != ErrorKind::BrokenPipe => Err(Failure(error.to_string(), 1)),
-        _ => Ok(()),
-    }
 }

@@ -20,13 +20,11 @@ impl Report {
         Ok(())
     }
 
-    /// A line for each id that was asked: the same, or `none`, and whether the id is one of the index.
-    pub fn lookups(&self, asked: &[u64], out: &mut dyn Write) -> io::Result<()> {
-        for id in asked {
-            let (found, member) = self.found(*id);
-            writeln!(out, "{found} {}", if member { "member" } else { "foreign" })?;
-        }
-        Ok(())
+    /// A line for an id that was asked: the same, or `none`, and whether the id is one of the index, which is answered too.
+    pub fn lookup(&self, asked: u64, out: &mut dyn Write) -> io::Result<bool> {
+        let (found, member) = self.found(asked);
+        writeln!(out, "{found} {}", if member { "member" } else { "foreign" })?;
+        Ok(member)
     }
 
     pub fn summary(&self) -> String {
@@ -79,14 +77,18 @@ mod tests {
     #[test]
     fn a_foreign_id_is_no_member() {
         let report = report(&[1, 2, 3]);
-        let asked: Vec<u64> = (1..500).collect();
-        let lines = written(|out| report.lookups(&asked, out));
-        for (line, id) in lines.lines().zip(asked) {
-            let words: Vec<&str> = line.split(' ').collect();
+        for id in 1..500 {
+            let mut line = Vec::new();
+            let member = report.lookup(id, &mut line).expect("a Vec takes all");
+            let line = String::from_utf8(line).expect("text");
+            let words: Vec<&str> = line.split_whitespace().collect();
             assert_eq!(words[1], id.to_string());
             assert_eq!(words[4], if id < 4 { "member" } else { "foreign" });
+            assert_eq!(member, id < 4);
         }
-        assert!(lines.contains("none 4 - - foreign\n"));
+        let mut line = Vec::new();
+        report.lookup(4, &mut line).expect("a Vec takes all");
+        assert_eq!(line, b"none 4 - - foreign\n");
     }
 
     #[test]
