@@ -28,8 +28,9 @@ fn main() -> ExitCode {
         ["quick"] => compare(&plan::QUICK),
         ["long"] => compare(&plan::LONG),
         ["speed"] => speed::measure(),
+        ["gammas"] => speed::gammas(),
         ["rows", file, gamma] => rows::write(file, gamma),
-        _ => Err("usage: compare quick | long | speed | rows FILE GAMMA".into()),
+        _ => Err("usage: compare quick | long | speed | gammas | rows FILE GAMMA".into()),
     };
     match ended {
         Ok(()) => ExitCode::SUCCESS,
