@@ -6,25 +6,29 @@ use oracle::boomphf::Mphf;
 use oracle::gammas::{best, ids, timed, Shape, GAMMAS};
 use std::time::Duration;
 
-const ROUNDS: usize = 15;
+const ROUNDS: usize = 25;
+
+/// Of builds and of lookups.
+type Times = [Vec<Duration>; 2];
 
 fn main() {
     let ids = ids();
+    let mut times: [Times; GAMMAS.len()] = Default::default();
+    for _ in 0..ROUNDS {
+        for (gamma, times) in GAMMAS.iter().zip(&mut times) {
+            round(*gamma, &ids[0], times);
+        }
+    }
     println!("{} build, ns | lookup, ns |", Shape::COLUMNS);
-    for gamma in GAMMAS {
-        let (mut builds, mut lookups) = (Vec::new(), Vec::new());
-        let index = (0..ROUNDS)
-            .map(|_| round(gamma, &ids[0], &mut builds, &mut lookups))
-            .last();
-        let shape = Shape::of(gamma, &index.expect("there is a round"), &ids);
-        println!("{shape} {:.0} | {:.0} |", best(builds), best(lookups));
+    for (gamma, times) in GAMMAS.into_iter().zip(times) {
+        let [build, lookup] = times.map(best);
+        println!("{} {build:.0} | {lookup:.0} |", Shape::of(gamma, &ids));
     }
 }
 
-fn round(gamma: f64, ids: &[u64], builds: &mut Vec<Duration>, lookups: &mut Vec<Duration>) -> Mphf<u64> {
+fn round(gamma: f64, ids: &[u64], [builds, lookups]: &mut Times) {
     let index = timed(builds, || Mphf::new(gamma, ids));
     let sum: u64 = timed(lookups, || ids.iter().map(|id| index.hash(id)).sum());
     let count = ids.len() as u64;
     assert_eq!(sum, count * (count - 1) / 2, "each row is some id's");
-    index
 }

@@ -29,10 +29,11 @@ pub struct Shape {
 impl Shape {
     pub const COLUMNS: &'static str = "| gamma | bits an id | levels | levels tried | of 100 others, with a row |";
 
-    pub fn of(gamma: f64, index: &Mphf<u64>, [ids, others]: &[Vec<u64>; 2]) -> Shape {
-        let [sizes, words, samples] = stores(index);
+    pub fn of(gamma: f64, [ids, others]: &[Vec<u64>; 2]) -> Shape {
+        let index = Mphf::new(gamma, ids);
+        let [sizes, words, samples] = stores(&index);
         let each = |sum: u64| sum as f64 / IDS as f64;
-        let level = |id: &u64| found(index, *id).expect("each id has its bit")[0];
+        let level = |id: &u64| found(&index, *id).expect("each id has its bit")[0];
         let with_row = others.iter().filter(|id| index.try_hash(id).is_some()).count();
         Shape {
             gamma,

@@ -8,7 +8,6 @@ use std::time::Duration;
 
 const GAMMA: f64 = 1.7;
 const ROUNDS: usize = 15;
-const ROUNDS_OF_EACH: usize = 5;
 
 /// The builds of boomphf and ours, the lookups of boomphf and ours.
 type Times = [Vec<Duration>; 4];
@@ -16,7 +15,10 @@ type Times = [Vec<Duration>; 4];
 /// At one gamma, the median of each.
 pub fn measure() -> Result<(), Box<dyn Error>> {
     let [ids, _] = ids();
-    let (_, times) = rounds(GAMMA, &ids, ROUNDS)?;
+    let mut times = Times::default();
+    for _ in 0..ROUNDS {
+        round(GAMMA, &ids, &mut times)?;
+    }
     let [rust_build, our_build, rust_lookup, our_lookup] = times.map(median);
     report("build", rust_build, our_build);
     report("lookup", rust_lookup, our_lookup);
@@ -26,30 +28,25 @@ pub fn measure() -> Result<(), Box<dyn Error>> {
 /// The table of gammas, with the best of each.
 pub fn gammas() -> Result<(), Box<dyn Error>> {
     let ids = ids();
+    let mut times: [Times; GAMMAS.len()] = Default::default();
+    for _ in 0..ROUNDS {
+        for (gamma, times) in GAMMAS.iter().zip(&mut times) {
+            round(*gamma, &ids[0], times)?;
+        }
+    }
     println!(
         "{} build, ns: boomphf | ours | lookup, ns: boomphf | ours |",
         Shape::COLUMNS
     );
-    for gamma in GAMMAS {
-        let (index, times) = rounds(gamma, &ids[0], ROUNDS_OF_EACH)?;
+    for (gamma, times) in GAMMAS.into_iter().zip(times) {
         let times = times.map(|times| format!(" {:.0} |", best(times))).concat();
-        println!("{}{times}", Shape::of(gamma, &index, &ids));
+        println!("{}{times}", Shape::of(gamma, &ids));
     }
     Ok(())
 }
 
-/// An index by boomphf, and the times of so many rounds.
-fn rounds(gamma: f64, ids: &[u64], rounds: usize) -> Result<(Mphf<u64>, Times), Refusal> {
-    let mut times = Times::default();
-    let mut index = round(gamma, ids, &mut times)?;
-    for _ in 1..rounds {
-        index = round(gamma, ids, &mut times)?;
-    }
-    Ok((index, times))
-}
-
 /// One after the other.
-fn round(gamma: f64, ids: &[u64], times: &mut Times) -> Result<Mphf<u64>, Refusal> {
+fn round(gamma: f64, ids: &[u64], times: &mut Times) -> Result<(), Refusal> {
     let [rust_build, our_build, rust_lookup, our_lookup] = times;
     let rust = timed(rust_build, || Mphf::new(gamma, ids));
     let ours = timed(our_build, || Index::build(ids, gamma))?;
@@ -59,7 +56,7 @@ fn round(gamma: f64, ids: &[u64], times: &mut Times) -> Result<Mphf<u64>, Refusa
         ids.iter().map(row).sum::<Result<u64, Refusal>>()
     })?;
     assert_eq!(rust_sum, our_sum);
-    Ok(rust)
+    Ok(())
 }
 
 /// In nanoseconds an id.
