@@ -56,9 +56,13 @@ extern "C" {
 #define SHAWLTIDE_NONE UINT64_MAX
 #define SHAWLTIDE_REFUSED(r) (SHAWLTIDE_NONE - (uint64_t)(r))
 
-/* Whether a result is a refusal; and which: its number, or 0 where it is none. A value is never above MAX_BITS, so no other result is read as one. */
-#define SHAWLTIDE_IS_REFUSAL(result) ((result) > SHAWLTIDE_MAX_BITS && (result) != SHAWLTIDE_NONE)
-#define SHAWLTIDE_REFUSAL(result) (SHAWLTIDE_IS_REFUSAL(result) ? SHAWLTIDE_NONE - (result) : 0)
+/* Whether a result is a refusal; and which: its number, or 0 where it is none. A value is never above MAX_BITS, so no other result is read as one. The
+ * argument may be a call: it is evaluated once. */
+#define SHAWLTIDE_IS_REFUSAL(result) (shawltide_refusal(result) != 0)
+#define SHAWLTIDE_REFUSAL(result) shawltide_refusal(result)
+static inline uint64_t shawltide_refusal(uint64_t result) {
+    return result > SHAWLTIDE_MAX_BITS ? SHAWLTIDE_NONE - result : 0;
+}
 
 /* Refusals, with what a refused call leaves. Where it does not say otherwise, all stores are as they were, but for out of a build (there). Where
  * several apply, the smallest counts; but sets are asked 10 before 9, and a short out of a build or place of a lookup is found before anything else. */

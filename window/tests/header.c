@@ -30,6 +30,9 @@ static void results(void) {
         CHECK(SHAWLTIDE_IS_REFUSAL(SHAWLTIDE_REFUSED(number)));
         CHECK(SHAWLTIDE_REFUSAL(SHAWLTIDE_REFUSED(number)) == number);
     }
+    uint64_t calls = 0;
+    CHECK(SHAWLTIDE_IS_REFUSAL((calls++, SHAWLTIDE_REFUSED(9))) && SHAWLTIDE_REFUSAL((calls++, SHAWLTIDE_REFUSED(9))) == 9);
+    CHECK(calls == 2);
 }
 
 static void sets(void) {
