@@ -95,7 +95,7 @@ static inline uint64_t shawltide_refusal(uint64_t result) {
 /* ---- Room, in places. Arguments of these macros are evaluated more than once. ---- */
 
 /* Words of a level or set of so many bits, and samples of a level: rounded up. A row list of n ids needs WORDS(n) marks. */
-#define SHAWLTIDE_WORDS(bits) (((uint64_t)(bits) + 63) / 64)
+#define SHAWLTIDE_WORDS(bits) ((uint64_t)(bits) / 64 + ((uint64_t)(bits) % 64 > 0))
 #define SHAWLTIDE_SAMPLES(bits) ((SHAWLTIDE_WORDS(bits) + SHAWLTIDE_SAMPLE_WORDS - 1) / SHAWLTIDE_SAMPLE_WORDS)
 
 /* Bits of level 0 of n ids, the largest level: gamma * n, rounded down, but at least MIN_BITS. What is out of bounds, NaN too, is cut to them. */
@@ -106,8 +106,8 @@ static inline uint64_t shawltide_refusal(uint64_t result) {
 /* What collide needs. rest needs n. */
 #define SHAWLTIDE_COLLIDE(n, gamma) SHAWLTIDE_WORDS(SHAWLTIDE_FIRST_BITS(n, gamma))
 
-/* What words and samples of n different ids likely need, and more: the build of a million takes 0.6 of it at gamma 1.7. Where it is refused with 5 all
- * the same, build again in the room below. */
+/* What words and samples of n different ids likely need, and more: three times level 0, and LEVEL_LIMIT of the smallest levels. A million ids take 0.6
+ * of it at gamma 1.7. Where a build is refused with 5 all the same, build again in the room below. */
 #define SHAWLTIDE_LIKELY_WORDS(n, gamma) \
     (3 * SHAWLTIDE_COLLIDE(n, gamma) + SHAWLTIDE_LEVEL_LIMIT * SHAWLTIDE_WORDS(SHAWLTIDE_MIN_BITS))
 #define SHAWLTIDE_LIKELY_SAMPLES(n, gamma) \

@@ -7,6 +7,7 @@ use shawltide::{host, Refusal, Room};
 fn main() {
     bounds();
     refusals();
+    levels();
     rooms();
 }
 
@@ -34,6 +35,14 @@ fn refusals() {
         ("WRONG_IDS", Refusal::WrongIds),
     ] {
         println!("{name} {}", refusal.number());
+    }
+}
+
+/// Places of words and samples.
+fn levels() {
+    for bits in [0, 1, 64, 65, SAMPLE_BITS, SAMPLE_BITS + 1, MAX_BITS, u64::MAX] {
+        let room = Room::of_level(bits);
+        println!("level of {bits} bits: {} {}", room.words, room.samples);
     }
 }
 

@@ -30,7 +30,8 @@ impl Index {
     /// Gamma is above 1.01 and at most 16. More makes a larger index, of fewer levels; [`GAMMA`](crate::GAMMA) is right for most, and README has a table.
     ///
     /// Refused are gamma out of its bounds (1, 2), more than [`MAX_IDS`] ids (3), and ids that remain after the last level (6): an id given twice
-    /// always does, and for different ids it is not to be expected. No other refusal comes: the stores are as large as they need to be.
+    /// always does, and for different ids it is not to be expected; `first_repeat` says which. No other refusal comes: the stores are as large as
+    /// they need to be.
     ///
     /// ```
     /// use shawltide::{Index, Refusal};
@@ -207,6 +208,7 @@ fn build_in(ids: &[u64], gamma: f64, room: Room) -> Result<Index, Refusal> {
 mod tests {
     use super::*;
     use crate::GAMMA;
+    use std::collections::HashSet;
 
     /// Different ids: multiples of an odd number.
     fn ids(count: u64) -> Vec<u64> {
@@ -245,6 +247,7 @@ mod tests {
             .map(|id| Ok(index.lookup(*id)?.expect("each id has a row")))
             .collect::<Result<_, Refusal>>()?;
         assert!(places.iter().map(|place| place.row).eq(0..3_000));
+        assert_eq!(places.iter().collect::<HashSet<_>>().len(), 3_000);
         let order: Vec<_> = places.iter().map(|place| (place.level, place.position)).collect();
         assert!(order.windows(2).all(|two| two[0] < two[1]));
         let mut listed = rows;

@@ -141,6 +141,7 @@ pub(crate) fn answer(result: u64, carried: u64) -> Result<u64, Refusal> {
 #[cfg(test)]
 mod tests {
     use super::*;
+    use std::collections::HashSet;
 
     #[test]
     fn numbers_come_back() {
@@ -154,6 +155,13 @@ mod tests {
         }
         assert_eq!(Refusal::from_number(0, 30), None);
         assert_eq!(Refusal::from_number(13, 30), None);
+    }
+
+    #[test]
+    fn refusals_can_be_keys() {
+        let all: HashSet<_> = (1..=12).map(|number| Refusal::from_number(number, 30)).collect();
+        assert_eq!(all.len(), 12);
+        assert!(all.contains(&Some(Refusal::IdsRemain(30))));
     }
 
     #[test]

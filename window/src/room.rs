@@ -66,7 +66,7 @@ impl Room {
 
 /// How many words so many bits need.
 pub(crate) fn words_for(bits: u64) -> usize {
-    ((bits + 63) / 64) as usize
+    (bits / 64 + u64::from(bits % 64 > 0)) as usize
 }
 
 #[cfg(test)]
@@ -77,10 +77,13 @@ mod tests {
     #[test]
     fn of_levels() {
         for (bits, words, samples) in [
+            (0, 0, 0),
+            (1, 1, 1),
             (MIN_BITS, 4, 1),
             (SAMPLE_BITS, SAMPLE_WORDS, 1),
             (SAMPLE_BITS + 1, SAMPLE_WORDS + 1, 2),
             (MAX_BITS, 262_144, 32_768),
+            (u64::MAX, 1 << 58, 1 << 55),
         ] {
             assert_eq!(Room::of_level(bits), Room { words, samples });
         }

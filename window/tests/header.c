@@ -132,6 +132,15 @@ static void refusals(void) {
 
 #define PLACES(number) printf(" %llu", (unsigned long long)(number))
 
+static void level_numbers(void) {
+    const uint64_t bits[8] = {0, 1, 64, 65, SHAWLTIDE_SAMPLE_BITS, SHAWLTIDE_SAMPLE_BITS + 1, SHAWLTIDE_MAX_BITS, UINT64_MAX};
+    for (int i = 0; i < 8; i++) {
+        printf("level of %llu bits:", (unsigned long long)bits[i]);
+        PLACES(SHAWLTIDE_WORDS(bits[i])), PLACES(SHAWLTIDE_SAMPLES(bits[i]));
+        printf("\n");
+    }
+}
+
 static void room_numbers(void) {
     const uint64_t counts[10] = {0, 1, 150, 151, 512, 513, 1000, 1000000, SHAWLTIDE_MAX_IDS, SHAWLTIDE_MAX_IDS + 1};
     const double gammas[8] = {1.0100000000000002, 1.1, SHAWLTIDE_GAMMA, 2, SHAWLTIDE_MAX_GAMMA, 1e300, -1, NAN};
@@ -151,6 +160,7 @@ int main(int words, char **word) {
     if (words == 2 && strcmp(word[1], "numbers") == 0) {
         bounds();
         refusals();
+        level_numbers();
         room_numbers();
         return 0;
     }
