@@ -10,7 +10,7 @@ const LIB: [Edit; 12] = [
     // The copy is a module and no crate root: its opening comment is no inner doc comment, and hashmap.rs is left out.
     (26, "\n//!", "\n//"),
     (1, "mod bitvector;\npub mod hashmap;\n", "use super::bitvector;\n"),
-    // The hash is the plain mixer over document 01's seed word, in the place of wyhash.
+    // The hash is the plain mixer over the seed word of `docs/REFERENCE.md`, in the place of wyhash.
     (
         1,
         "wyhash::WyHash::with_seed(1 << (iter + iter))",

@@ -1,6 +1,6 @@
 /* Shawltide's calls for C, in libhost.a for x86-64 Linux: ids to row numbers, with no two ids on one row.
  *
- * The result. Each call answers with one number: a value, SHAWLTIDE_NONE for none, SHAWLTIDE_NONE - r for refusal r of the list below. Every
+ * The result. Each call answers with one number: a value, SHAWLTIDE_NONE for none, SHAWLTIDE_REFUSED(r) for refusal r of the list below. Every
  * input is answered; no call traps, allocates, keeps a pointer or runs on.
  *
  * What the host must pass. A store is a pointer to uint64_t and its length in places, not bytes. For each:
@@ -9,20 +9,10 @@
  *   - a store that a call may write overlaps no other store of the same call, and no other thread uses it meanwhile.
  * Beyond that nothing is asked of the host: contents, numbers and lengths are checked by the calls.
  *
- * Refusals, with what a refused call leaves. Where it does not say otherwise, all stores are as they were, but for out of a build (there).
- *    1  gamma is not above 1.01, or is NaN
- *    2  gamma is above 16
- *    3  more than 1048576 ids
- *    4  rest has fewer places than there are ids, or collide fewer than level 0 has words
- *    5  words or samples has no room for a level, whose number is in out[0]; words, samples, collide and rest are all 0
- *    6  ids remain after level 99, how many is in out[0]; words, samples, collide and rest are all 0
- *    7  the head is not 102 numbers or does not fit its bounds, or words or samples is too short for it
- *    8  a lookup finds a set bit, but its sample or its row cannot be
- *    9  the bit is not below the capacity; for eq_left, it is above either capacity
- *   10  the capacity is above 16777216, words is too short for it, or words has a bit at or past it; for insert_all, the capacities are unequal
- *   11  a store for answers is too short: out, place, rows or marks
- *   12  the ids are not those of the index: rows as they were, the needed marks are 0
- * Where several apply, the smallest counts; but sets are asked 10 before 9, and a short out or place is found before anything else.
+ * Threads. The calls keep nothing between two of them: any number of threads may call at once, each with stores of its own to write, and read the
+ * same index.
+ *
+ * What each word means, and what to do about each refusal, says docs/REFERENCE.md.
  */
 #ifndef SHAWLTIDE_H
 #define SHAWLTIDE_H
@@ -34,15 +24,101 @@
 extern "C" {
 #endif
 
-#define SHAWLTIDE_NONE UINT64_MAX
+/* ---- Bounds ---- */
 
-/* Places of a head (id count, level count, 100 sizes), and what out and place need at least. */
-#define SHAWLTIDE_HEAD 102
-#define SHAWLTIDE_OUT 103
+/* A gamma that serves most; gamma is above MIN_GAMMA and at most MAX_GAMMA. */
+#define SHAWLTIDE_GAMMA 1.7
+#define SHAWLTIDE_MIN_GAMMA 1.01
+#define SHAWLTIDE_MAX_GAMMA 16.0
+
+/* The most ids of an index; the fewest and the most bits of a level; MAX_BITS is also the largest capacity of a set. */
+#define SHAWLTIDE_MAX_IDS 1048576
+#define SHAWLTIDE_MIN_BITS 255
+#define SHAWLTIDE_MAX_BITS 16777216
+
+/* How many levels a build runs at most; how many sizes a head's list has; the most levels that a head may name. */
+#define SHAWLTIDE_LEVEL_LIMIT 100
+#define SHAWLTIDE_HEAD_SIZES 100
+#define SHAWLTIDE_MAX_LEVELS 100
+
+/* A sample stands for so many words, and so many bits. */
+#define SHAWLTIDE_SAMPLE_WORDS 8
+#define SHAWLTIDE_SAMPLE_BITS (64 * SHAWLTIDE_SAMPLE_WORDS)
+
+/* Places of a head (id count, level count, sizes), and what out of a build and place of a lookup need at least. */
+#define SHAWLTIDE_HEAD (SHAWLTIDE_HEAD_SIZES + 2)
+#define SHAWLTIDE_OUT (SHAWLTIDE_HEAD + 1)
 #define SHAWLTIDE_PLACE 2
 
-/* Sets. A set is a capacity of at most 16777216 and words: at least capacity / 64, rounded up, of which bit b is bit b % 64 of words[b / 64]. Words
- * past those are neither read nor changed. */
+/* ---- Results ---- */
+
+/* The result for none, and that for refusal r. */
+#define SHAWLTIDE_NONE UINT64_MAX
+#define SHAWLTIDE_REFUSED(r) (SHAWLTIDE_NONE - (uint64_t)(r))
+
+/* Whether a result is a refusal; and which: its number, or 0 where it is none. A value is never above MAX_BITS, so no other result is read as one. The
+ * argument may be a call: it is evaluated once. */
+#define SHAWLTIDE_IS_REFUSAL(result) (shawltide_refusal(result) != 0)
+#define SHAWLTIDE_REFUSAL(result) shawltide_refusal(result)
+static inline uint64_t shawltide_refusal(uint64_t result) {
+    return result > SHAWLTIDE_MAX_BITS ? SHAWLTIDE_NONE - result : 0;
+}
+
+/* Refusals, with what a refused call leaves. Where it does not say otherwise, all stores are as they were, but for out of a build (there). Where
+ * several apply, the smallest counts; but sets are asked 10 before 9, and a short out of a build or place of a lookup is found before anything else. */
+
+/* Gamma is not above 1.01, or is NaN. */
+#define SHAWLTIDE_GAMMA_TOO_SMALL 1
+/* Gamma is above 16. */
+#define SHAWLTIDE_GAMMA_TOO_LARGE 2
+/* More than MAX_IDS ids. */
+#define SHAWLTIDE_TOO_MANY_IDS 3
+/* rest has fewer places than there are ids, or collide fewer than level 0 has words. */
+#define SHAWLTIDE_SHORT_WORK_STORE 4
+/* words or samples has no room for a level, whose number is in out[0]; words, samples, collide and rest are all 0. */
+#define SHAWLTIDE_NO_ROOM_FOR_LEVEL 5
+/* Ids remain after the last level, how many is in out[0]; words, samples, collide and rest are all 0. An id given twice always remains. */
+#define SHAWLTIDE_IDS_REMAIN 6
+/* The head is not HEAD numbers or does not fit its bounds, or words or samples is too short for it. */
+#define SHAWLTIDE_UNFIT_HEAD 7
+/* A lookup finds a set bit, but its sample or its row cannot be: the index is damaged. */
+#define SHAWLTIDE_UNFIT_ROW 8
+/* The bit is not below the capacity; for eq_left, it is above either capacity. */
+#define SHAWLTIDE_BIT_OUTSIDE 9
+/* The capacity is above MAX_BITS, words is too short for it, or words has a bit at or past it; for insert_all, the capacities are unequal. */
+#define SHAWLTIDE_UNFIT_SET 10
+/* A store for answers is too short: out, place, rows or marks. */
+#define SHAWLTIDE_SHORT_OUTPUT 11
+/* The ids are not those of the index: rows as they were, the needed marks are 0. */
+#define SHAWLTIDE_WRONG_IDS 12
+
+/* ---- Room, in places. Arguments of these macros are evaluated more than once. ---- */
+
+/* Words of a level or set of so many bits, and samples of a level: rounded up. A row list of n ids needs WORDS(n) marks. */
+#define SHAWLTIDE_WORDS(bits) ((uint64_t)(bits) / 64 + ((uint64_t)(bits) % 64 > 0))
+#define SHAWLTIDE_SAMPLES(bits) ((SHAWLTIDE_WORDS(bits) + SHAWLTIDE_SAMPLE_WORDS - 1) / SHAWLTIDE_SAMPLE_WORDS)
+
+/* Bits of level 0 of n ids, the largest level: gamma * n, rounded down, but at least MIN_BITS. What is out of bounds, NaN too, is cut to them. */
+#define SHAWLTIDE_FIRST_BITS(n, gamma)                                                                       \
+    ((gamma) * (double)(n) >= SHAWLTIDE_MAX_BITS   ? (uint64_t)SHAWLTIDE_MAX_BITS                            \
+     : (gamma) * (double)(n) >= SHAWLTIDE_MIN_BITS ? (uint64_t)((gamma) * (double)(n)) : (uint64_t)SHAWLTIDE_MIN_BITS)
+
+/* What collide needs. rest needs n. */
+#define SHAWLTIDE_COLLIDE(n, gamma) SHAWLTIDE_WORDS(SHAWLTIDE_FIRST_BITS(n, gamma))
+
+/* What words and samples of n different ids likely need, and more: three times level 0, and LEVEL_LIMIT of the smallest levels. A million ids take 0.6
+ * of it at gamma 1.7. Where a build is refused with 5 all the same, build again in the room below. */
+#define SHAWLTIDE_LIKELY_WORDS(n, gamma) \
+    (3 * SHAWLTIDE_COLLIDE(n, gamma) + SHAWLTIDE_LEVEL_LIMIT * SHAWLTIDE_WORDS(SHAWLTIDE_MIN_BITS))
+#define SHAWLTIDE_LIKELY_SAMPLES(n, gamma) \
+    (3 * SHAWLTIDE_SAMPLES(SHAWLTIDE_FIRST_BITS(n, gamma)) + SHAWLTIDE_LEVEL_LIMIT * SHAWLTIDE_SAMPLES(SHAWLTIDE_MIN_BITS))
+
+/* What is enough for any n ids: no build in it is refused with 5. It is up to 33 times as much. */
+#define SHAWLTIDE_ENOUGH_WORDS(n, gamma) (SHAWLTIDE_LEVEL_LIMIT * SHAWLTIDE_COLLIDE(n, gamma))
+#define SHAWLTIDE_ENOUGH_SAMPLES(n, gamma) (SHAWLTIDE_LEVEL_LIMIT * SHAWLTIDE_SAMPLES(SHAWLTIDE_FIRST_BITS(n, gamma)))
+
+/* ---- Sets. A set is a capacity of at most MAX_BITS and words: WORDS(capacity) of them or more, of which bit b is bit b % 64 of words[b / 64]. Words
+ * past those are neither read nor changed. ---- */
 
 /* Makes the empty set: 0. words may hold anything. Refused: 10. */
 uint64_t shawltide_set_empty(uint64_t capacity, uint64_t *words, size_t words_len);
@@ -76,13 +152,13 @@ uint64_t shawltide_set_eq_left(uint64_t capacity, const uint64_t *words, size_t 
 /* Writes the members, in rising order, to the front of out: how many. out has a place for each; later places stay. Refused: 10, 11. */
 uint64_t shawltide_set_members(uint64_t capacity, const uint64_t *words, size_t words_len, uint64_t *out, size_t out_len);
 
-/* The index. A level for r ids has max(255, gamma * r) bits, as a whole number; level 0 has all ids, and no level is larger. A level of s bits takes s / 64
- * words, and words / 8 samples, both rounded up. 100 times what level 0 takes is room enough for any ids; different ids take far less. */
+/* ---- The index. A level for r ids has gamma * r bits, rounded down, but at least MIN_BITS; level 0 has all ids, and no level is larger. A level of s
+ * bits takes WORDS(s) words and SAMPLES(s) samples. ---- */
 
 /* Builds an index of the ids, in any order: 0. gamma is above 1.01 and at most 16.
  * words, samples: as many places as the levels take together, or more. They may hold anything; then they hold the index, and 0 past it.
  * collide: as many places as level 0 has words, or more. rest: as many as there are ids, or more. Both may hold anything and are then all 0.
- * out: SHAWLTIDE_OUT places or more. out[0] is the value that refusal 5 or 6 carries, else 0; out[1] to out[102] are the head, or zeros where the
+ * out: SHAWLTIDE_OUT places or more. out[0] is the value that refusal 5 or 6 carries, else 0; out[1] to out[HEAD] are the head, or zeros where the
  *      build is refused; later places stay. A short out stays as it was.
  * Refused: 11, for out; 1, 2, 3, 4, 5, 6. */
 uint64_t shawltide_build(double gamma, const uint64_t *ids, size_t ids_len, uint64_t *words, size_t words_len,
@@ -90,7 +166,7 @@ uint64_t shawltide_build(double gamma, const uint64_t *ids, size_t ids_len, uint
                          uint64_t *rest, size_t rest_len, uint64_t *out, size_t out_len);
 
 /* The id's row, below the id count; or none. An id that the index was not built of gets none or a row of another: a row is no proof of membership.
- * head: the SHAWLTIDE_HEAD numbers of a build, out[1] to out[102]. words, samples: as the build left them, or their used part.
+ * head: the SHAWLTIDE_HEAD numbers of a build, from out[1] on. words, samples: as the build left them, or their used part.
  * place: SHAWLTIDE_PLACE places or more. It gets the level and the position of a row, and is else unchanged; later places stay.
  * Refused: 11, for place; 7, 8. */
 uint64_t shawltide_lookup(const uint64_t *head, size_t head_len, const uint64_t *words, size_t words_len,
@@ -98,7 +174,7 @@ uint64_t shawltide_lookup(const uint64_t *head, size_t head_len, const uint64_t 
 
 /* Writes at each row the id that lookup sends there: 0. ids: those of the index, in any order.
  * head, words, samples: as for a lookup.
- * rows: a place for each id, or more; later places stay. marks: id count / 64 places, rounded up, or more; those are then 0, later ones stay.
+ * rows: a place for each id, or more; later places stay. marks: WORDS(id count) places or more; those are then 0, later ones stay.
  * Refused: 7, 11, 12. */
 uint64_t shawltide_rows(const uint64_t *head, size_t head_len, const uint64_t *words, size_t words_len,
                         const uint64_t *samples, size_t samples_len, const uint64_t *ids, size_t ids_len,

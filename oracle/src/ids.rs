@@ -1,6 +1,7 @@
 //! Sorts of ids. All but `repeated` and `doubled` have no id twice, as drawn.
 
 use crate::boomphf::hashmod;
+use crate::bounds::MIN_BITS;
 use crate::draw::Draw;
 use std::collections::BTreeMap;
 
@@ -35,11 +36,11 @@ pub fn doubled(draw: &mut Draw, count: u64) -> Vec<u64> {
     random(draw, count).repeat(2)
 }
 
-/// Ids that collide at so many levels of 255 bits: each shares its positions in all of them with another. They are picked from so many drawn ones.
+/// Ids that collide at so many of the smallest levels: each shares its positions in all of them with another. They are picked from so many drawn ones.
 pub fn colliding(draw: &mut Draw, from: u64, levels: u64) -> Vec<u64> {
     let mut alike: BTreeMap<Vec<u64>, Vec<u64>> = BTreeMap::new();
     for id in random(draw, from) {
-        let positions = (0..levels).map(|level| hashmod(level, &id, 255)).collect();
+        let positions = (0..levels).map(|level| hashmod(level, &id, MIN_BITS)).collect();
         alike.entry(positions).or_default().push(id);
     }
     alike.into_values().filter(|ids| ids.len() > 1).flatten().collect()

@@ -1,11 +1,9 @@
 //! What the Rust makes of ids.
 
 use crate::bitvector::BitVector;
-use crate::boomphf::{Context, Mphf};
+use crate::boomphf::{hashmod, Context, Mphf};
+use crate::bounds::{LEVEL_LIMIT, MIN_BITS};
 use std::panic;
-
-/// Levels 0 to 99.
-const LEVELS: u64 = 100;
 
 /// `Mphf::new`, or none where it panics. The panic is not written.
 pub fn build(gamma: f64, ids: &[u64]) -> Option<Mphf<u64>> {
@@ -31,11 +29,19 @@ pub fn stores(index: &Mphf<u64>) -> [Vec<u64>; 3] {
     ]
 }
 
-/// How many ids remain after level 99, by the Rust's own steps: its panic does not tell.
+/// Level and position: the first level that has the id's bit.
+pub fn found(index: &Mphf<u64>, id: u64) -> Option<[u64; 2]> {
+    (0..).zip(index.bitvecs.iter()).find_map(|(level, (bits, _))| {
+        let position = hashmod(level, &id, bits.capacity());
+        bits.contains(position).then_some([level, position])
+    })
+}
+
+/// How many ids remain after the last level of a build, by the Rust's own steps: its panic does not tell.
 pub fn remaining(gamma: f64, ids: &[u64]) -> u64 {
     let mut ids = ids.to_vec();
-    for level in 0..LEVELS {
-        let mut context = Context::new(std::cmp::max(255, (gamma * ids.len() as f64) as u64), level);
+    for level in 0..LEVEL_LIMIT {
+        let mut context = Context::new(std::cmp::max(MIN_BITS, (gamma * ids.len() as f64) as u64), level);
         ids.iter().for_each(|id| context.find_collisions_sync(id));
         ids.retain(|id| context.filter(id).is_some());
     }

@@ -2,7 +2,7 @@
 //! every edit), and what makes lists of its answers.
 
 #[cfg(debug_assertions)]
-compile_error!("document 01 follows the Rust's release build: add --release");
+compile_error!("the judge is boomphf's release build: add --release");
 
 /// boomphf's `bitvector.rs`.
 #[allow(dead_code)]
@@ -16,7 +16,9 @@ pub mod boomphf {
     include!(concat!(env!("OUT_DIR"), "/lib.rs"));
 }
 
+pub mod bounds;
 pub mod draw;
+pub mod gammas;
 pub mod ids;
 pub mod judge;
 pub mod list;

@@ -8,6 +8,7 @@ mod set;
 mod size;
 
 use crate::boomphf::{fold, hash_with_seed, hashmod};
+use crate::bounds::{LEVEL_LIMIT, MAX_BITS, MIN_BITS, SAMPLE_BITS};
 use crate::draw::Draw;
 use crate::judge::words;
 use crate::list::List;
@@ -43,9 +44,10 @@ fn draw(number: u64) -> Draw {
     Draw::new(0x0073_6861_776C_0000 + number)
 }
 
-const LEVELS: [u64; 5] = [0, 1, 31, 32, 99];
+/// The first levels and the last, and both sides of the line from which seed words are 0.
+const LEVELS: [u64; 5] = [0, 1, 31, 32, LEVEL_LIMIT - 1];
 
-const SIZES: [u64; 6] = [255, 256, 511, 513, 2000, 16_777_216];
+const SIZES: [u64; 6] = [MIN_BITS, MIN_BITS + 1, SAMPLE_BITS - 1, SAMPLE_BITS + 1, 2000, MAX_BITS];
 
 /// Ids at the edges of their halves, and 300 more.
 fn ids() -> Vec<u64> {

@@ -1,4 +1,4 @@
-//! Document 01's plain mixer and seed word, which the oracle's `hash_with_seed` has for its body.
+//! The plain mixer and the seed word of `docs/REFERENCE.md`, which the oracle's `hash_with_seed` has for its body.
 
 use std::hash::Hasher;
 

@@ -27,8 +27,8 @@ impl Catalogue {
         let ids = index.rows(&given)?;
         let mut paths = vec![""; files.len()];
         for (id, path) in files {
-            if let Some(place) = index.lookup(*id)? {
-                paths[place.row as usize] = path;
+            if let Some(row) = index.row(*id)? {
+                paths[row] = path;
             }
         }
         Ok(Catalogue { index, ids, paths })
@@ -36,7 +36,7 @@ impl Catalogue {
 
     /// The path of an id. A row alone would not do: an id from elsewhere may get the row of another.
     fn path(&self, id: u64) -> Result<Option<&'static str>, Refusal> {
-        let row = self.index.lookup(id)?.map(|place| place.row as usize);
+        let row = self.index.row(id)?;
         Ok(row.filter(|row| self.ids[*row] == id).map(|row| self.paths[row]))
     }
 }

@@ -1,4 +1,5 @@
-//! The thirteen calls of libhost.a over slices, for a front end that keeps its own stores. `shawltide.h` says what each does.
+//! The thirteen calls of libhost.a over slices, for a front end that keeps its own stores. `docs/REFERENCE.md` says what each takes, answers and leaves;
+//! [`Room`](crate::Room) says how long the stores of a build have to be.
 //!
 //! The result is a value, [`NONE`], or `NONE - r` for refusal r ([`Refusal::number`](crate::Refusal::number)). No call panics, whatever it is given.
 //!
@@ -13,11 +14,13 @@
 // What the calls ask of a host is what a slice of Rust is: a pointer that is aligned and not null, a true length, and for a `&mut` no other
 // slice over the same places. Nothing else is asked: no call has a precondition.
 
+use crate::bounds::HEAD_SIZES;
+
 /// The result for none.
 pub const NONE: u64 = u64::MAX;
 
-/// How many numbers a head is: id count, level count, 100 sizes.
-pub const HEAD: usize = 102;
+/// How many numbers a head is: id count, level count, sizes.
+pub const HEAD: usize = HEAD_SIZES + 2;
 
 /// How many places `out` of a build needs: one for the value that a refusal carries, and the head's.
 pub const OUT: usize = HEAD + 1;

@@ -1,27 +1,22 @@
+use crate::bounds::MAX_IDS;
 use crate::host;
 use crate::refusal::{answer, Refusal};
-
-/// A gamma that serves most users: about 3 bits an id.
-pub const GAMMA: f64 = 1.7;
-
-/// How many ids an index can have.
-pub const MAX_IDS: usize = 1_048_576;
-
-const MAX_LEVELS: usize = 100;
-const LEAST_BITS: usize = 255;
-const MOST_BITS: usize = 16_777_216;
+use crate::room::{words_for, Room};
+use std::fmt;
 
 /// An index of ids: gives each its row.
-#[derive(Clone, Debug, PartialEq, Eq)]
+///
+/// Any number of threads may ask one index at once, with no lock: no call changes it.
+#[derive(Clone, PartialEq, Eq)]
 pub struct Index {
-    /// Id count, level count, 100 sizes.
+    /// Id count, level count, sizes.
     head: [u64; host::HEAD],
     words: Vec<u64>,
     samples: Vec<u64>,
 }
 
 /// Where a lookup found an id.
-#[derive(Clone, Copy, Debug, PartialEq, Eq)]
+#[derive(Clone, Copy, Debug, PartialEq, Eq, Hash)]
 pub struct Place {
     pub row: u64,
     /// The level whose bit gave the row, and the bit's position there.
@@ -32,10 +27,11 @@ pub struct Place {
 impl Index {
     /// Builds an index of the ids. Their order makes no difference.
     ///
-    /// More gamma makes a larger index that is faster to build and to ask; it is above 1.01 and at most 16.
+    /// Gamma is above 1.01 and at most 16. More makes a larger index, of fewer levels; [`GAMMA`](crate::GAMMA) is right for most, and README has a table.
     ///
     /// Refused are gamma out of its bounds (1, 2), more than [`MAX_IDS`] ids (3), and ids that remain after the last level (6): an id given twice
-    /// always does, and for different ids it is not to be expected. No other refusal comes: the stores are as large as they need to be.
+    /// always does, and for different ids it is not to be expected; `first_repeat` says which. No other refusal comes: the stores are as large as
+    /// they need to be.
     ///
     /// ```
     /// use shawltide::{Index, Refusal};
@@ -46,32 +42,77 @@ impl Index {
     /// # Ok::<(), Refusal>(())
     /// ```
     pub fn build(ids: &[u64], gamma: f64) -> Result<Index, Refusal> {
-        let first = Room::of_first_level(ids.len(), gamma);
-        match build_in(ids, gamma, first, Room::likely(first)) {
-            Err(Refusal::NoRoomForLevel(_)) => build_in(ids, gamma, first, Room::enough(first)),
+        match build_in(ids, gamma, Room::likely(ids.len(), gamma)) {
+            Err(Refusal::NoRoomForLevel(_)) => build_in(ids, gamma, Room::enough(ids.len(), gamma)),
             answer => answer,
         }
     }
 
-    /// An index kept elsewhere: the head (id count, level count, 100 sizes), words and samples that [`Index::into_parts`] gave. Any others
-    /// are taken too; then a lookup may be refused with 7 or 8, and the rows that it gives are not those of an index.
+    /// An index kept elsewhere: the head (id count, level count, sizes), words and samples that [`Index::parts`] or [`Index::into_parts`] gave. Any
+    /// others are taken too; then a lookup may be refused with 7 or 8, and the rows that it gives are not those of an index.
     pub fn from_parts(head: [u64; host::HEAD], words: Vec<u64>, samples: Vec<u64>) -> Index {
         Index { head, words, samples }
     }
 
-    /// The head, the words and the samples.
+    /// The head, the words and the samples, to be written elsewhere.
+    ///
+    /// ```
+    /// use shawltide::{host, Index};
+    /// let index = Index::build(&[10, 20, 30], 2.0)?;
+    /// let (head, words, samples) = index.parts();
+    /// let mut place = [0; host::PLACE];
+    /// let row = host::lookup(head, words, samples, 20, &mut place);
+    /// assert_eq!(index.row(20)?, Some(row as usize));
+    /// # Ok::<(), shawltide::Refusal>(())
+    /// ```
+    pub fn parts(&self) -> (&[u64; host::HEAD], &[u64], &[u64]) {
+        (&self.head, &self.words, &self.samples)
+    }
+
+    /// The head, the words and the samples, as they are.
     pub fn into_parts(self) -> ([u64; host::HEAD], Vec<u64>, Vec<u64>) {
         (self.head, self.words, self.samples)
     }
 
-    /// Where the id has its row. An id that is not of the index has none, or gets the row of another.
+    /// The id's row. An id that is not of the index has none, or gets the row of another.
     ///
     /// Refused are only indexes that no build made ([`Index::from_parts`]): with a head that does not fit (7) or a row that cannot be (8).
     ///
     /// ```
     /// use shawltide::Index;
+    /// let names = ["ten", "twenty", "thirty"];
     /// let index = Index::build(&[10, 20, 30], 2.0)?;
-    /// assert!(index.lookup(20)?.expect("20 is one of the ids").row < 3);
+    /// let mut at_row = [""; 3];
+    /// for (id, name) in [10, 20, 30].into_iter().zip(names) {
+    ///     at_row[index.row(id)?.expect("each id has a row")] = name;
+    /// }
+    /// assert_eq!(at_row[index.row(20)?.unwrap()], "twenty");
+    /// # Ok::<(), shawltide::Refusal>(())
+    /// ```
+    pub fn row(&self, id: u64) -> Result<Option<usize>, Refusal> {
+        Ok(self.lookup(id)?.map(|place| place.row as usize))
+    }
+
+    /// The row of each id of a list, in the list's order, as [`Index::row`] gives it. The ids need not be of the index, nor different.
+    ///
+    /// ```
+    /// use shawltide::Index;
+    /// let index = Index::build(&[10, 20, 30], 2.0)?;
+    /// let rows = index.rows_of(&[30, 10, 30])?;
+    /// assert_eq!(rows, [index.row(30)?, index.row(10)?, index.row(30)?]);
+    /// # Ok::<(), shawltide::Refusal>(())
+    /// ```
+    pub fn rows_of(&self, ids: &[u64]) -> Result<Vec<Option<usize>>, Refusal> {
+        ids.iter().map(|id| self.row(*id)).collect()
+    }
+
+    /// The id's row with the level and the position where it was found; else as [`Index::row`].
+    ///
+    /// ```
+    /// use shawltide::Index;
+    /// let index = Index::build(&[10, 20, 30], 2.0)?;
+    /// let place = index.lookup(20)?.expect("20 is one of the ids");
+    /// assert!(place.row < 3 && place.level < index.levels() as u64);
     /// assert_eq!(Index::build(&[], 2.0)?.lookup(20)?, None);
     /// # Ok::<(), shawltide::Refusal>(())
     /// ```
@@ -91,14 +132,14 @@ impl Index {
     /// use shawltide::{Index, Refusal};
     /// let index = Index::build(&[10, 20, 30], 2.0)?;
     /// let rows = index.rows(&[30, 20, 10])?;
-    /// assert_eq!(rows[index.lookup(10)?.unwrap().row as usize], 10);
+    /// assert_eq!(rows[index.row(10)?.unwrap()], 10);
     /// assert_eq!(index.rows(&[10, 20]), Err(Refusal::WrongIds));
     /// # Ok::<(), Refusal>(())
     /// ```
     pub fn rows(&self, ids: &[u64]) -> Result<Vec<u64>, Refusal> {
         let count = self.len().min(MAX_IDS);
         let mut rows = vec![0; count];
-        let mut marks = vec![0; (count + 63) / 64];
+        let mut marks = vec![0; words_for(count as u64)];
         let result = host::rows(&self.head, &self.words, &self.samples, ids, &mut rows, &mut marks);
         answer(result, 0)?;
         Ok(rows)
@@ -118,65 +159,35 @@ impl Index {
         self.head[1] as usize
     }
 
-    /// How many bits the words and the samples take.
+    /// How many bits the words and the samples take. The head takes [`host::HEAD`] numbers more, 816 bytes.
     pub fn bits(&self) -> usize {
         64 * (self.words.len() + self.samples.len())
     }
 }
 
-/// Places for words and for samples.
-#[derive(Clone, Copy)]
-struct Room {
-    words: usize,
-    samples: usize,
-}
-
-impl Room {
-    /// What a level of so many bits takes.
-    fn of_level(bits: usize) -> Room {
-        let words = (bits + 63) / 64;
-        Room {
-            words,
-            samples: (words + 7) / 8,
-        }
-    }
-
-    /// What level 0 takes, the largest; the build itself refuses what is out of bounds.
-    fn of_first_level(ids: usize, gamma: f64) -> Room {
-        let bits = (gamma * ids as f64) as usize;
-        Room::of_level(bits.clamp(LEAST_BITS, MOST_BITS))
-    }
-
-    /// What different ids are expected to take: all levels together less than three times the first, but for the smallest.
-    fn likely(first: Room) -> Room {
-        first.times(3).plus(Room::of_level(LEAST_BITS).times(MAX_LEVELS))
-    }
-
-    /// Enough for any ids: no level is larger than the first.
-    fn enough(first: Room) -> Room {
-        first.times(MAX_LEVELS)
-    }
-
-    fn times(self, levels: usize) -> Room {
-        Room {
-            words: levels * self.words,
-            samples: levels * self.samples,
-        }
-    }
-
-    fn plus(self, other: Room) -> Room {
-        Room {
-            words: self.words + other.words,
-            samples: self.samples + other.samples,
-        }
+/// Its counts, and not its content.
+///
+/// ```
+/// let index = shawltide::Index::build(&[10, 20, 30], 2.0)?;
+/// assert_eq!(format!("{index:?}"), "Index { ids: 3, levels: 1, words: 4, samples: 1 }");
+/// # Ok::<(), shawltide::Refusal>(())
+/// ```
+impl fmt::Debug for Index {
+    fn fmt(&self, f: &mut fmt::Formatter) -> fmt::Result {
+        f.debug_struct("Index")
+            .field("ids", &self.len())
+            .field("levels", &self.levels())
+            .field("words", &self.words.len())
+            .field("samples", &self.samples.len())
+            .finish()
     }
 }
 
 /// A build in so much room, of which the index keeps what it uses.
-fn build_in(ids: &[u64], gamma: f64, first: Room, room: Room) -> Result<Index, Refusal> {
+fn build_in(ids: &[u64], gamma: f64, room: Room) -> Result<Index, Refusal> {
     let mut words = vec![0; room.words];
     let mut samples = vec![0; room.samples];
-    let mut collide = vec![0; first.words];
+    let mut collide = vec![0; Room::of_first_level(ids.len(), gamma).words];
     let mut rest = vec![0; ids.len().min(MAX_IDS)];
     let mut out = [0; host::OUT];
     let result = host::build(gamma, ids, &mut words, &mut samples, &mut collide, &mut rest, &mut out);
@@ -184,7 +195,7 @@ fn build_in(ids: &[u64], gamma: f64, first: Room, room: Room) -> Result<Index, R
     let mut head = [0; host::HEAD];
     head.copy_from_slice(&out[1..]);
     let sizes = head[2..].iter().take(head[1] as usize);
-    let used = sizes.map(|size| Room::of_level(*size as usize)).reduce(Room::plus);
+    let used = sizes.map(|size| Room::of_level(*size)).reduce(Room::plus);
     let used = used.expect("an index has a level");
     words.truncate(used.words);
     samples.truncate(used.samples);
@@ -196,6 +207,8 @@ fn build_in(ids: &[u64], gamma: f64, first: Room, room: Room) -> Result<Index, R
 #[cfg(test)]
 mod tests {
     use super::*;
+    use crate::GAMMA;
+    use std::collections::HashSet;
 
     /// Different ids: multiples of an odd number.
     fn ids(count: u64) -> Vec<u64> {
@@ -234,6 +247,7 @@ mod tests {
             .map(|id| Ok(index.lookup(*id)?.expect("each id has a row")))
             .collect::<Result<_, Refusal>>()?;
         assert!(places.iter().map(|place| place.row).eq(0..3_000));
+        assert_eq!(places.iter().collect::<HashSet<_>>().len(), 3_000);
         let order: Vec<_> = places.iter().map(|place| (place.level, place.position)).collect();
         assert!(order.windows(2).all(|two| two[0] < two[1]));
         let mut listed = rows;
@@ -274,6 +288,29 @@ mod tests {
     }
 
     #[test]
+    fn rows_alone_and_of_a_list() -> Result<(), Refusal> {
+        let index = Index::build(&ids(300), GAMMA)?;
+        let asked: Vec<u64> = ids(300).into_iter().chain(0..300).rev().collect();
+        let rows = index.rows_of(&asked)?;
+        assert!(rows.contains(&None));
+        for (id, row) in asked.iter().zip(&rows) {
+            let place = index.lookup(*id)?;
+            assert_eq!(*row, place.map(|place| place.row as usize));
+            assert_eq!(index.row(*id)?, *row);
+        }
+        assert_eq!(index.rows_of(&[])?, []);
+        Ok(())
+    }
+
+    #[test]
+    fn shown_in_one_short_line() -> Result<(), Refusal> {
+        let shown = format!("{:?}", Index::build(&ids(100_000), GAMMA)?);
+        assert!(shown.starts_with("Index { ids: 100000, levels: "), "{shown}");
+        assert!(shown.len() < 80, "{shown}");
+        Ok(())
+    }
+
+    #[test]
     fn refused_builds() {
         for gamma in [1.01, 0.0, -2.0, f64::NAN, f64::NEG_INFINITY] {
             assert_eq!(Index::build(&[1], gamma), Err(Refusal::GammaTooSmall));
@@ -289,8 +326,7 @@ mod tests {
     fn room_is_always_enough() {
         let mut twice = ids(2_000);
         twice.extend_from_within(..);
-        let first = Room::of_first_level(twice.len(), GAMMA);
-        let tried = build_in(&twice, GAMMA, first, Room::likely(first));
+        let tried = build_in(&twice, GAMMA, Room::likely(twice.len(), GAMMA));
         assert!(matches!(tried, Err(Refusal::NoRoomForLevel(_))));
         assert_eq!(Index::build(&twice, GAMMA), Err(Refusal::IdsRemain(4_000)));
     }
@@ -300,6 +336,7 @@ mod tests {
         let ids = ids(600);
         let index = Index::build(&ids, GAMMA)?;
         let (head, words, samples) = index.clone().into_parts();
+        assert_eq!(index.parts(), (&head, &words[..], &samples[..]));
         assert_eq!(Index::from_parts(head, words.clone(), samples.clone()), index);
 
         let short = Index::from_parts(head, words[1..].to_vec(), samples.clone());
@@ -311,9 +348,11 @@ mod tests {
         let endless = Index::from_parts(endless, words.clone(), samples.clone());
         assert_eq!(endless.rows(&ids), Err(Refusal::UnfitHead));
 
-        let high = samples.iter().map(|_| 1_048_577).collect();
+        let high = vec![MAX_IDS as u64 + 1; samples.len()];
         let damaged = Index::from_parts(head, words, high);
         assert_eq!(damaged.lookup(ids[0]), Err(Refusal::UnfitRow));
+        assert_eq!(damaged.row(ids[0]), Err(Refusal::UnfitRow));
+        assert_eq!(damaged.rows_of(&ids[..1]), Err(Refusal::UnfitRow));
         assert_eq!(damaged.rows(&ids), Err(Refusal::WrongIds));
         Ok(())
     }

@@ -1,7 +1,8 @@
 //! Ids to row numbers, with no two ids on one row, and proved so.
 //!
 //! An [`Index`] of n different u64 ids gives each of them a row of its own below n. A [`BitSet`] is a set of numbers below a capacity. Both are
-//! safe calls over libhost.a, whose functions are proved to do what they promise; `docs/PROMISES.md` says what that is.
+//! safe calls over libhost.a, whose functions are proved to do what they promise. `docs/REFERENCE.md` says what each call takes, answers and
+//! leaves, `docs/PROMISES.md` what is proved.
 //!
 //! ```
 //! use shawltide::{Index, GAMMA};
@@ -10,29 +11,54 @@
 //! let index = Index::build(&ids, GAMMA)?;
 //! let rows = index.rows(&ids)?;
 //! for id in ids {
-//!     let place = index.lookup(id)?.expect("each id has a row");
-//!     assert_eq!(rows[place.row as usize], id);
+//!     let row = index.row(id)?.expect("each id has a row");
+//!     assert_eq!(rows[row], id);
 //! }
 //! # Ok(())
 //! # }
 //! ```
 //!
-//! A row is no proof of membership: an id that is not of the index gets none or the row of another. To know, ask whether the row list has the id at
-//! its row.
+//! **A row is no proof of membership.** An id that is not of the index gets none or the row of another. To know, ask whether the row list has the id
+//! at its row.
+//!
+//! **Refusals.** What cannot be done is refused with a [`Refusal`], which says what is wrong and what to do. No call panics, but for `collect` and
+//! `extend` of a [`BitSet`], which cannot refuse.
+//!
+//! **Threads.** Every type here is `Send` and `Sync`: any number of threads may ask one [`Index`] or [`BitSet`] at once, with no lock. The calls of
+//! libhost.a keep nothing between two calls, so that builds in several threads do not meet.
+//!
+//! ```
+//! # fn main() -> Result<(), shawltide::Refusal> {
+//! let index = shawltide::Index::build(&[10, 20, 30], 2.0)?;
+//! let rows = std::thread::scope(|threads| {
+//!     let asked = [10, 20, 30].map(|id| threads.spawn({ let index = &index; move || index.row(id) }));
+//!     asked.map(|thread| thread.join().expect("a lookup does not panic"))
+//! });
+//! assert_eq!(rows[1], index.row(20));
+//! # Ok(())
+//! # }
+//! ```
 
 #[cfg(not(target_arch = "x86_64"))]
 compile_error!("libhost.a is for x86-64: tools/cargo-x86-64 builds for it on other machines too");
 
+pub mod bounds;
 pub mod host;
 mod index;
+mod members;
 mod refusal;
 mod repeat;
+mod room;
 mod set;
 
-pub use index::{Index, Place, GAMMA, MAX_IDS};
+pub use bounds::{GAMMA, MAX_BITS, MAX_IDS};
+pub use index::{Index, Place};
+pub use members::Iter;
 pub use refusal::Refusal;
 pub use repeat::first_repeat;
-pub use set::{BitSet, MAX_BITS};
+pub use room::Room;
+pub use set::BitSet;
 
-/// The form in which an index is kept: a head of 102 numbers, words and samples. A version that makes indexes of another form has another number here.
+/// The form in which an index is kept: a head of [`bounds::HEAD`] numbers, words and samples. A version that makes indexes of another form has another number
+/// here.
 pub const FORM: u64 = 1;

@@ -1,16 +1,18 @@
+use crate::bounds::{MAX_BITS, MAX_GAMMA, MAX_IDS, MIN_GAMMA};
 use crate::host::NONE;
 use std::{error, fmt};
 
-/// Why a call was refused: document 01's table, a case for each number, with the value that it carries.
+/// Why a call was refused: a case for each number of the table in `docs/REFERENCE.md`, with the value that it carries. That page says what each leaves
+/// in memory. As text, a refusal says what is wrong and what to do about it.
 ///
 /// ```
 /// use shawltide::{Index, Refusal};
 /// let refusal = Index::build(&[7, 7], 2.0).unwrap_err();
 /// assert_eq!(refusal, Refusal::IdsRemain(2));
 /// assert_eq!(refusal.number(), 6);
-/// assert_eq!(refusal.to_string(), "refusal 6: 2 ids remain after the last level, as where an id is given twice");
+/// assert_eq!(refusal.to_string(), "refusal 6: 2 ids remain after the last level; give each id once");
 /// ```
-#[derive(Clone, Copy, Debug, PartialEq, Eq)]
+#[derive(Clone, Copy, Debug, PartialEq, Eq, Hash)]
 #[non_exhaustive]
 pub enum Refusal {
     /// 1: gamma is not above 1.01, or is NaN.
@@ -40,7 +42,7 @@ pub enum Refusal {
 }
 
 impl Refusal {
-    /// The number in document 01's table.
+    /// The number in the table.
     pub fn number(self) -> u64 {
         match self {
             Refusal::GammaTooSmall => 1,
@@ -81,25 +83,51 @@ impl Refusal {
 impl fmt::Display for Refusal {
     fn fmt(&self, f: &mut fmt::Formatter) -> fmt::Result {
         write!(f, "refusal {}: ", self.number())?;
+        self.wrong(f)?;
+        match self.advice() {
+            Some(advice) => write!(f, "; {advice}"),
+            None => Ok(()),
+        }
+    }
+}
+
+impl Refusal {
+    /// What is wrong.
+    fn wrong(&self, f: &mut fmt::Formatter) -> fmt::Result {
         match self {
-            Refusal::GammaTooSmall => write!(f, "gamma is not above 1.01"),
-            Refusal::GammaTooLarge => write!(f, "gamma is above 16"),
-            Refusal::TooManyIds => write!(f, "there are more than 1048576 ids"),
+            Refusal::GammaTooSmall => write!(f, "gamma is not above {MIN_GAMMA}"),
+            Refusal::GammaTooLarge => write!(f, "gamma is above {MAX_GAMMA}"),
+            Refusal::TooManyIds => write!(f, "there are more than {MAX_IDS} ids"),
             Refusal::ShortWorkStore => write!(f, "the rest store or the collide store is too short"),
             Refusal::NoRoomForLevel(level) => write!(f, "the words or the samples have no room for level {level}"),
-            Refusal::IdsRemain(ids) => {
-                write!(
-                    f,
-                    "{ids} ids remain after the last level, as where an id is given twice"
-                )
-            }
+            Refusal::IdsRemain(ids) => write!(f, "{ids} ids remain after the last level"),
             Refusal::UnfitHead => write!(f, "the head does not fit its bounds, its words or its samples"),
             Refusal::UnfitRow => write!(f, "the index is damaged: the id's sample or row cannot be"),
             Refusal::BitOutside => write!(f, "the bit is not below the capacity"),
-            Refusal::UnfitSet => write!(f, "the words do not hold a set of the capacity"),
+            Refusal::UnfitSet => write!(
+                f,
+                "the words hold no set of the capacity, it is above {MAX_BITS}, or two capacities are unequal"
+            ),
             Refusal::ShortOutput => write!(f, "a store for the answer is too short"),
             Refusal::WrongIds => write!(f, "the ids are not those of the index"),
         }
+    }
+
+    /// What to do about it, where that is not said by the bound itself.
+    fn advice(&self) -> Option<&'static str> {
+        Some(match self {
+            Refusal::GammaTooSmall | Refusal::GammaTooLarge => return None,
+            Refusal::TooManyIds => "share them out among several indexes",
+            Refusal::ShortWorkStore => "lend a place for each id, and one for each word of level 0",
+            Refusal::NoRoomForLevel(_) => "lend more of both",
+            Refusal::IdsRemain(_) => "give each id once",
+            Refusal::UnfitHead => "take all three as one build left them",
+            Refusal::UnfitRow => "build it again",
+            Refusal::BitOutside => "make the set larger",
+            Refusal::UnfitSet => "make each set empty or of ones first, and keep its capacity",
+            Refusal::ShortOutput => "lend as many places as the call writes",
+            Refusal::WrongIds => "give those that it was built of, each once",
+        })
     }
 }
 
@@ -113,29 +141,39 @@ pub(crate) fn answer(result: u64, carried: u64) -> Result<u64, Refusal> {
 #[cfg(test)]
 mod tests {
     use super::*;
+    use std::collections::HashSet;
 
     #[test]
     fn numbers_come_back() {
         for number in 1..=12 {
-            let refusal = Refusal::from_number(number, 30).expect("01's table has it");
+            let refusal = Refusal::from_number(number, 30).expect("the table has it");
             assert_eq!(refusal.number(), number);
             assert_eq!(answer(NONE - number, 30), Err(refusal));
             assert!(refusal.to_string().starts_with(&format!("refusal {number}: ")));
+            let says_the_bound = number < 3;
+            assert_ne!(refusal.to_string().contains("; "), says_the_bound);
         }
         assert_eq!(Refusal::from_number(0, 30), None);
         assert_eq!(Refusal::from_number(13, 30), None);
     }
 
     #[test]
+    fn refusals_can_be_keys() {
+        let all: HashSet<_> = (1..=12).map(|number| Refusal::from_number(number, 30)).collect();
+        assert_eq!(all.len(), 12);
+        assert!(all.contains(&Some(Refusal::IdsRemain(30))));
+    }
+
+    #[test]
     fn values_stay() {
-        for value in [0, 1, 16_777_216, NONE - 13, NONE] {
+        for value in [0, 1, MAX_BITS, NONE - 13, NONE] {
             assert_eq!(answer(value, 30), Ok(value));
         }
     }
 
     #[test]
     fn five_and_six_carry_a_value() {
-        assert!(Refusal::NoRoomForLevel(99).to_string().ends_with("level 99"));
+        assert!(Refusal::NoRoomForLevel(99).to_string().contains(" level 99;"));
         assert!(Refusal::IdsRemain(17).to_string().contains(" 17 ids "));
     }
 }

@@ -1,8 +1,12 @@
+use crate::bounds::MAX_BITS;
 use crate::host;
+use crate::members::Iter;
 use crate::refusal::{answer, Refusal};
+use crate::room::words_for;
+use std::fmt;
 
-/// The largest capacity of a set.
-pub const MAX_BITS: u64 = 16_777_216;
+/// How many numbers `Debug` shows.
+const SHOWN: usize = 8;
 
 /// A set of numbers below a capacity, one bit each.
 ///
@@ -15,9 +19,10 @@ pub const MAX_BITS: u64 = 16_777_216;
 /// assert!(!set.insert(200)?);
 /// assert_eq!(set.members(), [200]);
 /// assert_eq!(set.insert(255), Err(Refusal::BitOutside));
+/// assert_eq!(set.iter().sum::<u64>(), 200);
 /// # Ok::<(), Refusal>(())
 /// ```
-#[derive(Clone, Debug, PartialEq, Eq)]
+#[derive(Clone, PartialEq, Eq)]
 pub struct BitSet {
     capacity: u64,
     /// As many words as the capacity needs, with no bit at or past the capacity: what the calls ask of a set.
@@ -60,12 +65,34 @@ impl BitSet {
         Ok(BitSet { capacity, words })
     }
 
+    /// The set of the numbers, given in any order; one may be given again. Refused are a capacity above the bound (10) and a number that is not
+    /// below the capacity (9).
+    ///
+    /// ```
+    /// use shawltide::{BitSet, Refusal};
+    /// assert_eq!(BitSet::from_members(255, [200, 3, 3])?.members(), [3, 200]);
+    /// assert_eq!(BitSet::from_members(255, [255]), Err(Refusal::BitOutside));
+    /// # Ok::<(), Refusal>(())
+    /// ```
+    pub fn from_members(capacity: u64, numbers: impl IntoIterator<Item = u64>) -> Result<BitSet, Refusal> {
+        let mut set = BitSet::empty(capacity)?;
+        for number in numbers {
+            set.insert(number)?;
+        }
+        Ok(set)
+    }
+
     pub fn capacity(&self) -> u64 {
         self.capacity
     }
 
     pub fn words(&self) -> &[u64] {
         &self.words
+    }
+
+    /// The words, as many as the capacity needs.
+    pub fn into_words(self) -> Vec<u64> {
+        self.words
     }
 
     pub fn is_empty(&self) -> bool {
@@ -118,6 +145,29 @@ impl BitSet {
         fit(host::set_members(self.capacity, &self.words, &mut members));
         members
     }
+
+    /// The numbers of the set, in rising order, one by one: with no store for all of them.
+    pub fn iter(&self) -> Iter<'_> {
+        Iter::of(self)
+    }
+}
+
+/// The capacity, how many numbers the set has, and the first few.
+///
+/// ```
+/// let set = shawltide::BitSet::from_members(255, [200, 3])?;
+/// assert_eq!(format!("{set:?}"), "BitSet { capacity: 255, len: 2, first: [3, 200] }");
+/// # Ok::<(), shawltide::Refusal>(())
+/// ```
+impl fmt::Debug for BitSet {
+    fn fmt(&self, f: &mut fmt::Formatter) -> fmt::Result {
+        let first: Vec<u64> = self.iter().take(SHOWN).collect();
+        f.debug_struct("BitSet")
+            .field("capacity", &self.capacity)
+            .field("len", &self.len())
+            .field("first", &first)
+            .finish()
+    }
 }
 
 /// How many words a capacity needs; none for one above the bound, which every call refuses.
@@ -125,7 +175,7 @@ fn needed(capacity: u64) -> usize {
     if capacity > MAX_BITS {
         return 0;
     }
-    ((capacity + 63) / 64) as usize
+    words_for(capacity)
 }
 
 fn said(result: u64) -> Result<bool, Refusal> {
@@ -133,7 +183,7 @@ fn said(result: u64) -> Result<bool, Refusal> {
 }
 
 /// The value of a call that only words unfit for a set could have refused.
-fn fit(result: u64) -> u64 {
+pub(crate) fn fit(result: u64) -> u64 {
     answer(result, 0).expect("the words hold a set of the capacity")
 }
 
@@ -178,6 +228,14 @@ mod tests {
         assert_eq!(set.len(), MAX_BITS);
         assert!(set.remove(MAX_BITS - 1)?);
         assert_eq!(set.members().len() as u64, MAX_BITS - 1);
+        Ok(())
+    }
+
+    #[test]
+    fn shown_in_one_short_line() -> Result<(), Refusal> {
+        let shown = format!("{:?}", BitSet::ones(MAX_BITS)?);
+        let wanted = "BitSet { capacity: 16777216, len: 16777216, first: [0, 1, 2, 3, 4, 5, 6, 7] }";
+        assert_eq!(shown, wanted);
         Ok(())
     }
 

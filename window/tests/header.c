@@ -1,53 +1,172 @@
-/* Each declaration of shawltide.h, called. */
+/* shawltide.h: each declaration called, each macro used. With the word `numbers` it writes what the header's macros come to, in the lines that
+ * window/examples/numbers.rs writes of the crate. */
 #include "../shawltide.h"
 
+#include <math.h>
 #include <stdio.h>
+#include <stdlib.h>
+#include <string.h>
 
 static int failed;
 
-static void check(int holds, const char *what) {
+static void check(int holds, const char *what, int line) {
     if (!holds) {
-        fprintf(stderr, "header: not so: %s\n", what);
+        fprintf(stderr, "header: line %d: not so: %s\n", line, what);
         failed = 1;
     }
 }
 
-#define CHECK(condition) check(condition, #condition)
+#define CHECK(condition) check(condition, #condition, __LINE__)
+
+static void results(void) {
+    const uint64_t values[3] = {0, 1, SHAWLTIDE_MAX_BITS};
+    for (int i = 0; i < 3; i++) {
+        CHECK(!SHAWLTIDE_IS_REFUSAL(values[i]));
+        CHECK(SHAWLTIDE_REFUSAL(values[i]) == 0);
+    }
+    CHECK(!SHAWLTIDE_IS_REFUSAL(SHAWLTIDE_NONE));
+    CHECK(SHAWLTIDE_REFUSAL(SHAWLTIDE_NONE) == 0);
+    for (uint64_t number = SHAWLTIDE_GAMMA_TOO_SMALL; number <= SHAWLTIDE_WRONG_IDS; number++) {
+        CHECK(SHAWLTIDE_IS_REFUSAL(SHAWLTIDE_REFUSED(number)));
+        CHECK(SHAWLTIDE_REFUSAL(SHAWLTIDE_REFUSED(number)) == number);
+    }
+    uint64_t calls = 0;
+    CHECK(SHAWLTIDE_IS_REFUSAL((calls++, SHAWLTIDE_REFUSED(9))) && SHAWLTIDE_REFUSAL((calls++, SHAWLTIDE_REFUSED(9))) == 9);
+    CHECK(calls == 2);
+}
 
 static void sets(void) {
-    uint64_t words[4], other[4], members[2] = {7, 7};
+    uint64_t words[SHAWLTIDE_WORDS(255)], other[SHAWLTIDE_WORDS(255)], members[2] = {7, 7};
     CHECK(shawltide_set_ones(255, other, 4) == 0);
     CHECK(shawltide_set_len(255, other, 4) == 255);
     CHECK(shawltide_set_empty(255, words, 4) == 0);
     CHECK(shawltide_set_is_empty(255, words, 4) == 1);
     CHECK(shawltide_set_insert(255, words, 4, 200) == 1);
     CHECK(shawltide_set_contains(255, words, 4, 200) == 1);
-    CHECK(shawltide_set_contains(255, words, 4, 255) == SHAWLTIDE_NONE - 9);
+    CHECK(SHAWLTIDE_REFUSAL(shawltide_set_contains(255, words, 4, 255)) == SHAWLTIDE_BIT_OUTSIDE);
     CHECK(shawltide_set_members(255, words, 4, members, 2) == 1 && members[0] == 200 && members[1] == 7);
     CHECK(shawltide_set_eq_left(255, words, 4, 255, other, 4, 0) == 1);
     CHECK(shawltide_set_eq_left(255, words, 4, 255, other, 4, 1) == 0);
     CHECK(shawltide_set_insert_all(255, words, 4, 255, other, 4) == 1);
     CHECK(shawltide_set_remove(255, words, 4, 3) == 1 && words[0] == UINT64_MAX - 8);
-    CHECK(shawltide_set_len(255, words, 3) == SHAWLTIDE_NONE - 10);
+    CHECK(SHAWLTIDE_REFUSAL(shawltide_set_len(255, words, 3)) == SHAWLTIDE_UNFIT_SET);
 }
 
-static void index_of_three(void) {
-    const uint64_t ids[3] = {10, 20, 30};
-    uint64_t words[400], samples[100], collide[4], rest[3], out[SHAWLTIDE_OUT], place[SHAWLTIDE_PLACE], rows[3], marks[1];
-    uint64_t *head = out + 1;
-    CHECK(shawltide_build(1.01, ids, 3, words, 400, samples, 100, collide, 4, rest, 3, out, SHAWLTIDE_OUT) == SHAWLTIDE_NONE - 1);
-    CHECK(shawltide_build(2.0, ids, 3, words, 400, samples, 100, collide, 4, rest, 3, out, SHAWLTIDE_OUT) == 0);
-    CHECK(head[0] == 3 && head[1] >= 1 && head[2] == 255);
-    CHECK(shawltide_rows(head, SHAWLTIDE_HEAD, words, 400, samples, 100, ids, 3, rows, 3, marks, 1) == 0);
-    for (uint64_t row = 0; row < 3; row++) {
-        CHECK(shawltide_lookup(head, SHAWLTIDE_HEAD, words, 400, samples, 100, rows[row], place, SHAWLTIDE_PLACE) == row);
-        CHECK(place[0] < head[1] && place[1] < 255);
+/* A short out of members is found after 10, a short out of a build before 1. */
+static void short_outs(void) {
+    uint64_t words[1] = {2}, out[1] = {9};
+    CHECK(SHAWLTIDE_REFUSAL(shawltide_set_members(1, words, 1, out, 0)) == SHAWLTIDE_UNFIT_SET);
+    CHECK(SHAWLTIDE_REFUSAL(shawltide_set_members(2, words, 1, out, 0)) == SHAWLTIDE_SHORT_OUTPUT);
+    CHECK(SHAWLTIDE_REFUSAL(shawltide_build(0, words, 1, words, 0, words, 0, words, 0, words, 0, out, 1)) == SHAWLTIDE_SHORT_OUTPUT);
+    CHECK(words[0] == 2 && out[0] == 9);
+}
+
+static uint64_t *store(size_t places) {
+    uint64_t *store = malloc(places * sizeof *store);
+    if (store == NULL) {
+        fprintf(stderr, "header: no memory\n");
+        exit(1);
     }
-    CHECK(rows[0] + rows[1] + rows[2] == 60);
+    memset(store, 0xA5, places * sizeof *store);
+    return store;
 }
 
-int main(void) {
+/* The result of a build in so much room. Where there is one, the index is asked for each id and its row list. */
+static uint64_t built(double gamma, const uint64_t *ids, size_t n, size_t words_len, size_t samples_len, uint64_t *value) {
+    size_t collide_len = SHAWLTIDE_COLLIDE(n, gamma), marks_len = SHAWLTIDE_WORDS(n);
+    uint64_t *words = store(words_len), *samples = store(samples_len), *collide = store(collide_len), *rest = store(n + 1);
+    uint64_t *rows = store(n + 1), *marks = store(marks_len + 1), out[SHAWLTIDE_OUT], place[SHAWLTIDE_PLACE], *head = out + 1;
+    uint64_t result = shawltide_build(gamma, ids, n, words, words_len, samples, samples_len, collide, collide_len, rest, n, out, SHAWLTIDE_OUT);
+    *value = out[0];
+    if (result == 0) {
+        CHECK(head[0] == n && head[1] <= SHAWLTIDE_MAX_LEVELS && SHAWLTIDE_WORDS(head[2]) == collide_len);
+        CHECK(shawltide_rows(head, SHAWLTIDE_HEAD, words, words_len, samples, samples_len, ids, n, rows, n, marks, marks_len) == 0);
+        for (uint64_t row = 0; row < n; row++) {
+            CHECK(shawltide_lookup(head, SHAWLTIDE_HEAD, words, words_len, samples, samples_len, rows[row], place, SHAWLTIDE_PLACE) == row);
+            CHECK(place[0] < head[1] && place[1] < head[2 + place[0]]);
+        }
+    }
+    free(words), free(samples), free(collide), free(rest), free(rows), free(marks);
+    return result;
+}
+
+static uint64_t likely(double gamma, const uint64_t *ids, size_t n, uint64_t *value) {
+    return built(gamma, ids, n, SHAWLTIDE_LIKELY_WORDS(n, gamma), SHAWLTIDE_LIKELY_SAMPLES(n, gamma), value);
+}
+
+static uint64_t enough(double gamma, const uint64_t *ids, size_t n, uint64_t *value) {
+    return built(gamma, ids, n, SHAWLTIDE_ENOUGH_WORDS(n, gamma), SHAWLTIDE_ENOUGH_SAMPLES(n, gamma), value);
+}
+
+/* Different ids are built in either room. Each id given twice does not fit the likely room, and then remains. */
+static void rooms(void) {
+    static uint64_t ids[4000];
+    const double gammas[4] = {1.0100000000000002, SHAWLTIDE_GAMMA, 2, SHAWLTIDE_MAX_GAMMA};
+    uint64_t value;
+    for (size_t i = 0; i < 4000; i++)
+        ids[i] = (i + 1) * UINT64_C(0x9E3779B97F4A7C15);
+    for (int i = 0; i < 4; i++)
+        for (size_t n = 0; n <= 4000; n = 3 * n + 1) {
+            CHECK(likely(gammas[i], ids, n, &value) == 0);
+            CHECK(enough(gammas[i], ids, n, &value) == 0);
+        }
+    memcpy(ids + 2000, ids, 2000 * sizeof *ids);
+    CHECK(SHAWLTIDE_REFUSAL(likely(1.7, ids, 4000, &value)) == SHAWLTIDE_NO_ROOM_FOR_LEVEL && value < SHAWLTIDE_LEVEL_LIMIT);
+    CHECK(SHAWLTIDE_REFUSAL(enough(1.7, ids, 4000, &value)) == SHAWLTIDE_IDS_REMAIN && value == 4000);
+    CHECK(SHAWLTIDE_REFUSAL(enough(SHAWLTIDE_MIN_GAMMA, ids, 9, &value)) == SHAWLTIDE_GAMMA_TOO_SMALL);
+    CHECK(SHAWLTIDE_REFUSAL(enough(16.5, ids, 9, &value)) == SHAWLTIDE_GAMMA_TOO_LARGE);
+}
+
+#define NUMBER(name) printf("%s %.17g\n", #name, (double)SHAWLTIDE_##name)
+
+static void bounds(void) {
+    NUMBER(GAMMA), NUMBER(MIN_GAMMA), NUMBER(MAX_GAMMA), NUMBER(MAX_IDS), NUMBER(MIN_BITS), NUMBER(MAX_BITS);
+    NUMBER(LEVEL_LIMIT), NUMBER(HEAD_SIZES), NUMBER(MAX_LEVELS), NUMBER(SAMPLE_WORDS), NUMBER(SAMPLE_BITS);
+    NUMBER(HEAD), NUMBER(OUT), NUMBER(PLACE);
+}
+
+static void refusals(void) {
+    NUMBER(GAMMA_TOO_SMALL), NUMBER(GAMMA_TOO_LARGE), NUMBER(TOO_MANY_IDS), NUMBER(SHORT_WORK_STORE), NUMBER(NO_ROOM_FOR_LEVEL);
+    NUMBER(IDS_REMAIN), NUMBER(UNFIT_HEAD), NUMBER(UNFIT_ROW), NUMBER(BIT_OUTSIDE), NUMBER(UNFIT_SET), NUMBER(SHORT_OUTPUT), NUMBER(WRONG_IDS);
+}
+
+#define PLACES(number) printf(" %llu", (unsigned long long)(number))
+
+static void level_numbers(void) {
+    const uint64_t bits[8] = {0, 1, 64, 65, SHAWLTIDE_SAMPLE_BITS, SHAWLTIDE_SAMPLE_BITS + 1, SHAWLTIDE_MAX_BITS, UINT64_MAX};
+    for (int i = 0; i < 8; i++) {
+        printf("level of %llu bits:", (unsigned long long)bits[i]);
+        PLACES(SHAWLTIDE_WORDS(bits[i])), PLACES(SHAWLTIDE_SAMPLES(bits[i]));
+        printf("\n");
+    }
+}
+
+static void room_numbers(void) {
+    const uint64_t counts[10] = {0, 1, 150, 151, 512, 513, 1000, 1000000, SHAWLTIDE_MAX_IDS, SHAWLTIDE_MAX_IDS + 1};
+    const double gammas[8] = {1.0100000000000002, 1.1, SHAWLTIDE_GAMMA, 2, SHAWLTIDE_MAX_GAMMA, 1e300, -1, NAN};
+    for (int i = 0; i < 10; i++)
+        for (int j = 0; j < 8; j++) {
+            uint64_t n = counts[i];
+            double gamma = gammas[j];
+            printf("room of %llu ids, gamma %d:", (unsigned long long)n, j);
+            PLACES(SHAWLTIDE_COLLIDE(n, gamma));
+            PLACES(SHAWLTIDE_LIKELY_WORDS(n, gamma)), PLACES(SHAWLTIDE_LIKELY_SAMPLES(n, gamma));
+            PLACES(SHAWLTIDE_ENOUGH_WORDS(n, gamma)), PLACES(SHAWLTIDE_ENOUGH_SAMPLES(n, gamma));
+            printf("\n");
+        }
+}
+
+int main(int words, char **word) {
+    if (words == 2 && strcmp(word[1], "numbers") == 0) {
+        bounds();
+        refusals();
+        level_numbers();
+        room_numbers();
+        return 0;
+    }
+    results();
     sets();
-    index_of_three();
+    short_outs();
+    rooms();
     return failed;
 }

@@ -2,8 +2,9 @@
 
 use crate::calls::{Act, Calls, Sets};
 use crate::lent::{same_number, same_store, Compared, Difference, Lent};
+use crate::reading::bounds::LAST_REFUSAL;
 use crate::reading::index::{Given, Run, Stores};
-use crate::reading::{index, set, LAST_REFUSAL, NONE};
+use crate::reading::{index, set, NONE};
 use oracle::draw::Draw;
 use std::collections::BTreeMap;
 

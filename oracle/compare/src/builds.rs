@@ -2,10 +2,12 @@
 
 use crate::bench::{same_given, same_index, Bench};
 use crate::lent::{same_number, same_store, Compared};
+use crate::reading::bounds::{HEAD, OUT};
 use crate::reading::index::{run, Given, Run, Stores};
-use crate::reading::{words_for, HEAD, NONE};
-use oracle::boomphf::{hashmod, Mphf};
+use crate::reading::{words_for, NONE};
+use oracle::boomphf::Mphf;
 use oracle::judge;
+pub use oracle::judge::found;
 
 /// The ids at this gamma, by the Rust, the reading and the calls under test.
 pub fn case(bench: &mut Bench, gamma: f64, ids: &[u64]) -> Compared {
@@ -30,7 +32,7 @@ pub fn case(bench: &mut Bench, gamma: f64, ids: &[u64]) -> Compared {
 
 /// A build that is refused for its gamma or its id count leaves all but `out` as it was.
 pub fn out_of_bounds(bench: &mut Bench, gamma: f64, ids: &[u64]) -> Compared {
-    for out in [0, HEAD, HEAD + 1, HEAD + 4] {
+    for out in [0, HEAD, OUT, OUT + 3] {
         let mut places = || bench.draw.below(4) as usize;
         let lengths = [places(), places(), places(), places(), out];
         let before = stores(bench, lengths);
@@ -46,7 +48,7 @@ fn rooms(bench: &mut Bench, run: &Run) -> Vec<Stores> {
         run.samples().len(),
         run.levels[0].words.len(),
         run.count,
-        HEAD + 1,
+        OUT,
     ];
     let mut rooms = vec![needs, needs.map(|need| need + 1 + bench.draw.below(50) as usize)];
     rooms.extend((0..needs.len()).filter_map(|store| one_short(needs, store)));
@@ -118,14 +120,6 @@ pub fn lookup(bench: &mut Bench, index: &Mphf<u64>, given: &Given, id: u64) -> C
         Some(found) => same_store("place by the Rust", &found, &after[..2]),
         None => same_store("place", &place, &after),
     }
-}
-
-/// Level and position: the first level of the Rust's that has the id's bit.
-pub fn found(index: &Mphf<u64>, id: u64) -> Option<[u64; 2]> {
-    (0..).zip(index.bitvecs.iter()).find_map(|(level, (bits, _))| {
-        let position = hashmod(level, &id, bits.capacity());
-        bits.contains(position).then_some([level, position])
-    })
 }
 
 /// The row list is the Rust's: at each row the id whose hash it is. In row and mark stores of every fit, for ids in another order, and for ids that are

@@ -3,8 +3,9 @@
 use crate::bench::{same_given, Bench};
 use crate::builds::{given, lookup};
 use crate::lent::Compared;
+use crate::reading::bounds::{HEAD, HEAD_SIZES, MAX_BITS, MAX_IDS, MAX_LEVELS, MIN_BITS, PLACE};
 use crate::reading::index::{run, Given};
-use crate::reading::{words_for, HEAD, MAX_BITS, MAX_IDS};
+use crate::reading::words_for;
 use oracle::bitvector::BitVector;
 use oracle::boomphf::Mphf;
 use oracle::judge;
@@ -27,7 +28,7 @@ pub fn case(bench: &mut Bench, gamma: f64, ids: &[u64]) -> Compared {
             } else {
                 bench.one_of(ids)
             };
-            let place = bench.one_of(&[2, 2, 2, 3, 1, 0]);
+            let place = bench.one_of(&[PLACE, PLACE, PLACE, PLACE + 1, PLACE - 1, 0]);
             let place = bench.anything(place);
             bench.lookup(&given, id, &place)?;
         }
@@ -43,10 +44,10 @@ pub fn case(bench: &mut Bench, gamma: f64, ids: &[u64]) -> Compared {
 
 /// One place of the head, the words or the samples, or a length.
 fn damage(bench: &mut Bench, given: &mut Given) {
-    let levels = given.head[1].clamp(1, 100);
+    let levels = given.head[1].clamp(1, HEAD_SIZES as u64);
     match bench.draw.below(10) {
         0 => given.head[0] = other(bench, given.head[0], MAX_IDS),
-        1 => given.head[1] = other(bench, given.head[1], 100),
+        1 => given.head[1] = other(bench, given.head[1], MAX_LEVELS as u64),
         2 | 3 => {
             let place = 2 + bench.draw.below(levels) as usize;
             given.head[place] = other(bench, given.head[place], MAX_BITS);
@@ -69,7 +70,7 @@ fn damage(bench: &mut Bench, given: &mut Given) {
 /// A number next to this one or to a bound.
 fn other(bench: &mut Bench, number: u64, most: u64) -> u64 {
     let near = [number.wrapping_sub(1), number.wrapping_add(1)];
-    let bounds = [0, 254, 255, most, most + 1, u64::MAX];
+    let bounds = [0, MIN_BITS - 1, MIN_BITS, most, most + 1, u64::MAX];
     if bench.draw.below(2) == 0 {
         return bench.one_of(&near);
     }
@@ -82,7 +83,7 @@ fn any_place(bench: &mut Bench, store: &[u64]) -> Option<usize> {
 
 /// Lookups in levels drawn bit by bit, as many as an index can have: those that the Rust's `compute_ranks` takes.
 pub fn drawn(bench: &mut Bench) -> Compared {
-    let levels = bench.one_of(&[1, 2, 31, 33, 34, 99, 100]);
+    let levels = bench.one_of(&[1, 2, 31, 33, 34, MAX_LEVELS - 1, MAX_LEVELS]);
     let bits: Vec<BitVector> = (0..levels).map(|_| level(bench)).collect();
     let mut index = Mphf::new(2.0, &[]);
     index.bitvecs = Mphf::<u64>::compute_ranks(bits);
@@ -100,7 +101,7 @@ pub fn drawn(bench: &mut Bench) -> Compared {
 
 /// A level with few of its bits, so that lookups come through to those after it, or with half.
 fn level(bench: &mut Bench) -> BitVector {
-    let mut level = BitVector::new(255 + bench.draw.below(2000));
+    let mut level = BitVector::new(MIN_BITS + bench.draw.below(2000));
     let set = level.capacity() / bench.one_of(&[2, 50, 100, 100]);
     for _ in 0..set {
         level.insert(bench.draw.below(level.capacity()));

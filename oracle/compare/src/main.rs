@@ -1,4 +1,4 @@
-//! boomphf, the proved calls of libhost.a and a plain reading of document 01, side by side. `README.md` of the oracle says more.
+//! boomphf, the proved calls of libhost.a and a plain reading of the scope document, side by side. `README.md` of the oracle says more.
 
 mod bench;
 mod builds;
@@ -31,6 +31,7 @@ fn main() -> ExitCode {
         ["quick"] => compare(&plan::QUICK),
         ["long"] => compare(&plan::LONG),
         ["speed"] => speed::measure(),
+        ["gammas"] => speed::gammas(),
         ["rows", file, gamma] => rows::write(file, gamma),
         _ => {
             eprint!("{USAGE}");

@@ -3,8 +3,9 @@
 use crate::bench::{Bench, Tally};
 use crate::calls::Calls;
 use crate::lent::{Compared, Difference};
-use crate::reading::MAX_IDS;
+use crate::reading::bounds::{MAX_BITS, MAX_GAMMA, MAX_IDS, MIN_GAMMA};
 use crate::{builds, damage, sets};
+use oracle::bounds::LEAST_GAMMA;
 use oracle::draw::Draw;
 use oracle::ids::{colliding, consecutive, doubled, multiples, random, repeated};
 
@@ -14,9 +15,9 @@ pub struct Plan {
     pub small: u64,
     /// Of up to 100,000.
     pub middle: u64,
-    /// Of 1,048,576 different ids.
+    /// Of as many different ids as an index can have.
     pub largest: u64,
-    /// Of 524,288 ids, each given twice.
+    /// Of half as many, each given twice.
     pub doubled: u64,
     /// Of ids that collide at so many levels, picked from so many.
     pub colliding: &'static [(u64, u64)],
@@ -45,12 +46,12 @@ pub const LONG: Plan = Plan {
     largest_sets: 40,
 };
 
-/// The f64 just above 1.01, the largest gamma, and some between.
-const GAMMAS: [f64; 9] = [1.0100000000000002, 1.1, 1.5, 1.7, 2.0, 2.5, 3.0, 5.0, 16.0];
+/// The least gamma, the largest, and some between.
+const GAMMAS: [f64; 9] = [LEAST_GAMMA, 1.1, 1.5, 1.7, 2.0, 2.5, 3.0, 5.0, MAX_GAMMA];
 
 /// The f64s next to those, outside, and others that are no gamma.
 const NO_GAMMAS: [f64; 9] = [
-    1.01,
+    MIN_GAMMA,
     16.000000000000004,
     0.0,
     -0.0,
@@ -85,7 +86,7 @@ impl Plan {
     fn largest(&self, bench: &mut Bench) -> Compared {
         for number in 0..self.largest as usize {
             let ids = [random, consecutive, multiples][number % 3](&mut bench.draw, MAX_IDS);
-            let gamma = [1.7, GAMMAS[0], 16.0, gamma(&mut bench.draw)][number % 4];
+            let gamma = [1.7, LEAST_GAMMA, MAX_GAMMA, gamma(&mut bench.draw)][number % 4];
             indexed(bench, gamma, &ids)?;
         }
         Ok(())
@@ -113,9 +114,9 @@ impl Plan {
 }
 
 /// On both sides of the bound.
-const LARGEST_CAPACITIES: [u64; 4] = [16_777_216, 16_777_215, 16_777_217, u64::MAX];
+const LARGEST_CAPACITIES: [u64; 4] = [MAX_BITS, MAX_BITS - 1, MAX_BITS + 1, u64::MAX];
 
-/// No sort of answer that document 01 knows is left out.
+/// No sort of answer that there is, is left out.
 fn complete(equal: &Tally) -> Compared {
     let refusals = [
         ("build", &[1, 2, 3, 4, 5, 6, 11][..]),
@@ -144,7 +145,7 @@ fn bounds(bench: &mut Bench) -> Compared {
         )?;
     }
     let many = random(&mut bench.draw, MAX_IDS + 1);
-    named("1048577 ids", builds::out_of_bounds(bench, 1.7, &many))
+    named("one id too many", builds::out_of_bounds(bench, 1.7, &many))
 }
 
 /// An index of a drawn sort, with damage done to it.
@@ -161,7 +162,7 @@ fn indexed(bench: &mut Bench, gamma: f64, ids: &[u64]) -> Compared {
 }
 
 fn gamma(draw: &mut Draw) -> f64 {
-    let (least, most) = (GAMMAS[0].to_bits(), 16.0_f64.to_bits());
+    let (least, most) = (LEAST_GAMMA.to_bits(), MAX_GAMMA.to_bits());
     match draw.below(2) {
         0 => GAMMAS[draw.below(GAMMAS.len() as u64) as usize],
         _ => f64::from_bits(least + draw.below(most - least + 1)),

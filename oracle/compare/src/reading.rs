@@ -1,19 +1,11 @@
-//! Document 01, read plainly: what each call answers, and what it leaves in every store. It is written with no care for time, and has nothing of
-//! boomphf, of the oracle's mixer or of the proved code.
+//! The calls read plainly: what each answers, and what it leaves in every store, by `docs/REFERENCE.md`. It is written with no care for time, and
+//! has nothing of boomphf, of the oracle's mixer or of the proved code, bounds included.
 
+pub mod bounds;
 pub mod index;
 pub mod set;
 
-pub const MAX_IDS: u64 = 1_048_576;
-pub const LEAST_BITS: u64 = 255;
-pub const MAX_BITS: u64 = 16_777_216;
-pub const MAX_LEVELS: usize = 100;
-
-/// A head as numbers: id count, level count, 100 sizes.
-pub const HEAD: usize = 2 + MAX_LEVELS;
-
-/// The last number of the table of refusals.
-pub const LAST_REFUSAL: u64 = 12;
+use bounds::SAMPLE_WORDS;
 
 /// The result of a call on flat stores that answers none, and that of one that is refused.
 pub const NONE: u64 = u64::MAX;
@@ -29,7 +21,7 @@ pub fn words_for(bits: u64) -> usize {
 
 /// Samples of a level.
 pub fn samples_for(bits: u64) -> usize {
-    (words_for(bits) + 7) / 8
+    (words_for(bits) + SAMPLE_WORDS - 1) / SAMPLE_WORDS
 }
 
 /// Bit b is bit b mod 64 of word b / 64.

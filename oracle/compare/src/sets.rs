@@ -1,9 +1,10 @@
-//! The calls on sets: by the reading always, and by boomphf's `BitVector` where it and document 01 agree.
+//! The calls on sets: by the reading always, and by boomphf's `BitVector` in the domain where the two agree.
 
 use crate::bench::Bench;
 use crate::calls::{Act, Sets};
 use crate::lent::{same_number, same_store, Compared};
-use crate::reading::{words_for, MAX_BITS};
+use crate::reading::bounds::MAX_BITS;
+use crate::reading::words_for;
 use oracle::bitvector::BitVector;
 use oracle::judge::words;
 

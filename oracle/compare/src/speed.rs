@@ -1,29 +1,23 @@
 //! Time of build and lookup at a million ids: boomphf against the crate of window/.
 
 use oracle::boomphf::Mphf;
-use oracle::draw::Draw;
-use oracle::ids::random;
-use shawltide::Index;
+use oracle::gammas::{best, ids, nanoseconds_an_id, timed, Shape, GAMMAS};
+use shawltide::{Index, Refusal};
 use std::error::Error;
-use std::time::{Duration, Instant};
+use std::time::Duration;
 
-const IDS: u64 = 1_000_000;
 const GAMMA: f64 = 1.7;
 const ROUNDS: usize = 15;
 
-/// In turn, round by round; the median of each.
+/// The builds of boomphf and ours, the lookups of boomphf and ours.
+type Times = [Vec<Duration>; 4];
+
+/// At one gamma, the median of each.
 pub fn measure() -> Result<(), Box<dyn Error>> {
-    let ids = random(&mut Draw::new(11), IDS);
-    let mut times: [Vec<Duration>; 4] = Default::default();
+    let [ids, _] = ids();
+    let mut times = Times::default();
     for _ in 0..ROUNDS {
-        let rust = timed(&mut times[0], || Mphf::new(GAMMA, &ids));
-        let ours = timed(&mut times[1], || Index::build(&ids, GAMMA))?;
-        let rust_sum: u64 = timed(&mut times[2], || ids.iter().map(|id| rust.hash(id)).sum());
-        let ours_sum: u64 = timed(&mut times[3], || {
-            let row = |id: &u64| Ok(ours.lookup(*id)?.expect("each id has a row").row);
-            ids.iter().map(row).sum::<Result<u64, shawltide::Refusal>>()
-        })?;
-        assert_eq!(rust_sum, ours_sum);
+        round(GAMMA, &ids, &mut times)?;
     }
     let [rust_build, our_build, rust_lookup, our_lookup] = times.map(median);
     report("build", rust_build, our_build);
@@ -31,24 +25,47 @@ pub fn measure() -> Result<(), Box<dyn Error>> {
     Ok(())
 }
 
-fn timed<T>(times: &mut Vec<Duration>, act: impl FnOnce() -> T) -> T {
-    let start = Instant::now();
-    let result = act();
-    times.push(start.elapsed());
-    result
-}
-
-fn median(mut times: Vec<Duration>) -> Duration {
-    times.sort_unstable();
-    times[times.len() / 2]
-}
-
-fn report(what: &str, rust: Duration, ours: Duration) {
-    let each = |time: Duration| time.as_secs_f64() * 1e9 / IDS as f64;
-    let times = ours.as_secs_f64() / rust.as_secs_f64();
+/// The table of gammas, with the best of each.
+pub fn gammas() -> Result<(), Box<dyn Error>> {
+    let ids = ids();
+    let mut times: [Times; GAMMAS.len()] = Default::default();
+    for _ in 0..ROUNDS {
+        for (gamma, times) in GAMMAS.iter().zip(&mut times) {
+            round(*gamma, &ids[0], times)?;
+        }
+    }
     println!(
-        "{what}: boomphf {:.1} ns an id, ours {:.1} ns an id, {times:.2} times",
-        each(rust),
-        each(ours)
+        "{} build, ns: boomphf | ours | lookup, ns: boomphf | ours |",
+        Shape::COLUMNS
     );
+    for (gamma, times) in GAMMAS.into_iter().zip(times) {
+        let times = times.map(|times| format!(" {:.0} |", best(times))).concat();
+        println!("{}{times}", Shape::of(gamma, &ids));
+    }
+    Ok(())
+}
+
+/// One after the other.
+fn round(gamma: f64, ids: &[u64], times: &mut Times) -> Result<(), Refusal> {
+    let [rust_build, our_build, rust_lookup, our_lookup] = times;
+    let rust = timed(rust_build, || Mphf::new(gamma, ids));
+    let ours = timed(our_build, || Index::build(ids, gamma))?;
+    let rust_sum: u64 = timed(rust_lookup, || ids.iter().map(|id| rust.hash(id)).sum());
+    let our_sum: u64 = timed(our_lookup, || {
+        let row = |id: &u64| Ok(ours.lookup(*id)?.expect("each id has a row").row);
+        ids.iter().map(row).sum::<Result<u64, Refusal>>()
+    })?;
+    assert_eq!(rust_sum, our_sum);
+    Ok(())
+}
+
+/// In nanoseconds an id.
+fn median(mut times: Vec<Duration>) -> f64 {
+    times.sort_unstable();
+    nanoseconds_an_id(times[times.len() / 2])
+}
+
+fn report(what: &str, rust: f64, ours: f64) {
+    let times = ours / rust;
+    println!("{what}: boomphf {rust:.1} ns an id, ours {ours:.1} ns an id, {times:.2} times");
 }

@@ -3,6 +3,7 @@
 use crate::calls::{Act, BuildStores, Calls, Proved, Sets};
 use crate::lent::Lent;
 use crate::plan::Plan;
+use crate::reading::bounds::LAST_REFUSAL;
 use crate::reading::index::Given;
 use crate::reading::{refused, NONE};
 
@@ -96,7 +97,7 @@ fn wrong_lookups_are_found() {
         |result, _| if result == NONE { 0 } else { result },
         |result, _| if result == refused(8) { NONE } else { result },
         |result, place| {
-            if result < refused(12) {
+            if result < refused(LAST_REFUSAL) {
                 place.swap(0, 1);
             }
             result

@@ -5,12 +5,13 @@
 //! `gamma's bits, how many ids, 0, how many remain, the ids`.
 
 use super::draw;
+use crate::bounds::{LEAST_GAMMA, MAX_GAMMA};
 use crate::draw::Draw;
 use crate::ids::{consecutive, multiples, random, repeated};
 use crate::judge::{build, remaining, stores};
 use crate::list::List;
 
-const GAMMAS: [f64; 8] = [1.0100000000000002, 1.1, 1.5, 1.7, 2.0, 3.0, 5.0, 16.0];
+const GAMMAS: [f64; 8] = [LEAST_GAMMA, 1.1, 1.5, 1.7, 2.0, 3.0, 5.0, MAX_GAMMA];
 
 const MOST_IDS: u64 = 3000;
 

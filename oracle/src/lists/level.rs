@@ -2,10 +2,19 @@
 
 use super::{draw, words, LEVELS};
 use crate::boomphf::{hashmod, Context};
+use crate::bounds::{MIN_BITS, SAMPLE_BITS};
 use crate::draw::Draw;
 use crate::list::List;
 
-const SIZES: [u64; 7] = [255, 256, 257, 511, 512, 513, 600];
+const SIZES: [u64; 7] = [
+    MIN_BITS,
+    MIN_BITS + 1,
+    MIN_BITS + 2,
+    SAMPLE_BITS - 1,
+    SAMPLE_BITS,
+    SAMPLE_BITS + 1,
+    600,
+];
 
 const MOST_IDS: u64 = 200;
 
@@ -24,7 +33,7 @@ pub fn levels() -> List {
         }
         let id = draw.next();
         for times in 0..5 {
-            case(&mut list, level, 255, &vec![id; times]);
+            case(&mut list, level, MIN_BITS, &vec![id; times]);
         }
     }
     list

@@ -3,12 +3,13 @@
 
 use super::draw;
 use crate::boomphf::Mphf;
+use crate::bounds::{LEAST_GAMMA, MAX_GAMMA};
 use crate::draw::Draw;
 use crate::ids::random;
 use crate::judge::stores;
 use crate::list::List;
 
-const GAMMAS: [f64; 5] = [1.0100000000000002, 1.5, 2.0, 5.0, 16.0];
+const GAMMAS: [f64; 5] = [LEAST_GAMMA, 1.5, 2.0, 5.0, MAX_GAMMA];
 
 pub fn lookups() -> List {
     let mut draw = draw(18);

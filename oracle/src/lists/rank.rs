@@ -3,6 +3,7 @@
 use super::{draw, words};
 use crate::bitvector::BitVector;
 use crate::boomphf::Mphf;
+use crate::bounds::{MAX_GAMMA, MIN_BITS, SAMPLE_BITS};
 use crate::draw::Draw;
 use crate::ids::random;
 use crate::list::List;
@@ -43,7 +44,7 @@ fn indexes(draw: &mut Draw) -> Vec<Mphf<u64>> {
     for (ids, gamma) in [
         (0, 2.0),
         (1, 2.0),
-        (100, 16.0),
+        (100, MAX_GAMMA),
         (300, 4.0),
         (500, 1.1),
         (1000, 1.5),
@@ -62,7 +63,7 @@ fn indexes(draw: &mut Draw) -> Vec<Mphf<u64>> {
 
 /// A level with none, few, half, most or all of the bits.
 fn level(draw: &mut Draw) -> BitVector {
-    let mut level = BitVector::new(255 + draw.below(2000));
+    let mut level = BitVector::new(MIN_BITS + draw.below(2000));
     let often = [0, 1, 8, 15, 16][draw.below(5) as usize];
     for bit in 0..level.capacity() {
         if draw.below(16) < often {
@@ -74,7 +75,17 @@ fn level(draw: &mut Draw) -> BitVector {
 
 /// Positions around the ends of the first words and samples, and others.
 fn positions(draw: &mut Draw, size: u64) -> Vec<u64> {
-    let ends = [0, 1, 63, 64, 65, 511, 512, 513, size - 1];
+    let ends = [
+        0,
+        1,
+        63,
+        64,
+        65,
+        SAMPLE_BITS - 1,
+        SAMPLE_BITS,
+        SAMPLE_BITS + 1,
+        size - 1,
+    ];
     let drawn = (0..6).map(|_| draw.below(size));
     ends.into_iter()
         .filter(|position| *position < size)

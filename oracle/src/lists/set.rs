@@ -1,4 +1,4 @@
-//! Acts on sets, by boomphf's `BitVector`, in the domain where it and document 01 agree. A set is written as the words of its
+//! Acts on sets, by boomphf's `BitVector`, in the domain where it and the proved calls agree. A set is written as the words of its
 //! capacity. Yes is 1, no is 0, done is 0.
 
 use super::{draw, words};

@@ -1,19 +1,15 @@
 //! Sizes of levels: `gamma's bits, remaining ids, size, words`.
 
 use crate::bitvector::BitVector;
+use crate::bounds::{LEAST_GAMMA, MAX_GAMMA, MAX_IDS, MIN_BITS};
 use crate::draw::Draw;
 use crate::list::List;
-
-/// The f64 just above 1.01, and the largest gamma that document 01 allows.
-const ENDS: [f64; 2] = [1.0100000000000002, 16.0];
-
-const MOST_IDS: u64 = 1_048_576;
 
 pub fn sizes() -> List {
     let mut draw = super::draw(3);
     let mut list = List::default();
-    for gamma in ENDS.into_iter().chain([1.5, 1.7, 2.0]) {
-        for ids in [0, 1, 2, 151, 170, 171, 1000, MOST_IDS - 1, MOST_IDS] {
+    for gamma in [LEAST_GAMMA, MAX_GAMMA, 1.5, 1.7, 2.0] {
+        for ids in [0, 1, 2, 151, 170, 171, 1000, MAX_IDS - 1, MAX_IDS] {
             case(&mut list, gamma, ids);
         }
     }
@@ -31,8 +27,8 @@ pub fn sizes() -> List {
 
 /// The size by the Rust's own expression, and its words.
 fn case(list: &mut List, gamma: f64, ids: u64) {
-    if ENDS[0] <= gamma && gamma <= ENDS[1] {
-        let size = std::cmp::max(255, (gamma * ids as f64) as u64);
+    if (LEAST_GAMMA..=MAX_GAMMA).contains(&gamma) {
+        let size = std::cmp::max(MIN_BITS, (gamma * ids as f64) as u64);
         let words = BitVector::new(size).num_words() as u64;
         list.case(&[gamma.to_bits(), ids, size, words]);
     }
@@ -41,11 +37,11 @@ fn case(list: &mut List, gamma: f64, ids: u64) {
 /// A number of ids in bounds, small ones as likely as large ones.
 fn remaining(draw: &mut Draw) -> u64 {
     let digits = draw.below(21);
-    draw.below(MOST_IDS) >> digits
+    draw.below(MAX_IDS) >> digits
 }
 
 fn random(draw: &mut Draw) -> f64 {
-    let (least, most) = (ENDS[0].to_bits(), ENDS[1].to_bits());
+    let (least, most) = (LEAST_GAMMA.to_bits(), MAX_GAMMA.to_bits());
     f64::from_bits(least + draw.below(most - least + 1))
 }
 

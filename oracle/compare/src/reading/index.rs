@@ -1,5 +1,6 @@
 //! Build, lookup and row list.
 
+use super::bounds::*;
 use super::*;
 
 /// Numbers modulo 2^64.
@@ -34,7 +35,7 @@ pub fn size(gamma: f64, remaining: u64) -> u64 {
     let (whole, part) = (product / unit, product % unit);
     let up = 2 * part > unit || 2 * part == unit && whole % 2 == 1;
     let rounded = (whole + u128::from(up)) * unit;
-    LEAST_BITS.max((rounded >> fraction_digits) as u64)
+    MIN_BITS.max((rounded >> fraction_digits) as u64)
 }
 
 /// A level as it is built.
@@ -55,7 +56,7 @@ pub fn run(gamma: f64, ids: &[u64]) -> Run {
     let mut levels = Vec::new();
     let mut rest = ids.to_vec();
     let mut before = 0;
-    while levels.is_empty() || levels.len() < MAX_LEVELS && !rest.is_empty() {
+    while levels.is_empty() || levels.len() < LEVEL_LIMIT && !rest.is_empty() {
         let size = size(gamma, rest.len() as u64);
         let place = |id: u64| position(levels.len(), id, size) as usize;
         let mut owners = vec![0; size as usize];
@@ -78,10 +79,10 @@ fn ones(bits: &[bool]) -> u64 {
     bits.iter().filter(|bit| **bit).count() as u64
 }
 
-/// One for 8 words: the bits set in all earlier levels and before those words.
+/// One for some words: the bits set in all earlier levels and before those words.
 fn samples(mut before: u64, bits: &[bool]) -> Vec<u64> {
     let mut samples = Vec::new();
-    for part in bits.chunks(512) {
+    for part in bits.chunks(SAMPLE_BITS) {
         samples.push(before);
         before += ones(part);
     }
@@ -101,14 +102,14 @@ pub struct Stores {
 /// A build, by the run of its ids where gamma and id count are in bounds.
 pub fn build(gamma: f64, ids: &[u64], run: Option<&Run>, before: &Stores) -> (u64, Stores) {
     let mut after = before.clone();
-    if before.out.len() < 1 + HEAD {
+    if before.out.len() < OUT {
         return (refused(11), after);
     }
-    after.out = fronted(&[0; 1 + HEAD], &before.out);
-    if gamma.is_nan() || gamma <= 1.01 {
+    after.out = fronted(&[0; OUT], &before.out);
+    if gamma.is_nan() || gamma <= MIN_GAMMA {
         return (refused(1), after);
     }
-    if gamma > 16.0 {
+    if gamma > MAX_GAMMA {
         return (refused(2), after);
     }
     if ids.len() as u64 > MAX_IDS {
@@ -190,7 +191,7 @@ impl Given {
         self.head.len() == HEAD
             && self.count() <= MAX_IDS
             && (1..=MAX_LEVELS as u64).contains(&self.head[1])
-            && self.sizes().iter().all(|size| (LEAST_BITS..=MAX_BITS).contains(size))
+            && self.sizes().iter().all(|size| (MIN_BITS..=MAX_BITS).contains(size))
             && self.sizes().iter().map(|size| words_for(*size)).sum::<usize>() <= self.words.len()
             && self.sizes().iter().map(|size| samples_for(*size)).sum::<usize>() <= self.samples.len()
     }
@@ -201,11 +202,12 @@ impl Given {
         for (level, size) in self.sizes().iter().enumerate() {
             let position = position(level, id, *size);
             if has(words, position) {
-                let sample = samples[(position / 512) as usize];
+                let number = position / SAMPLE_BITS as u64;
+                let sample = samples[number as usize];
                 if sample > MAX_IDS {
                     return Err(8);
                 }
-                let first = position / 512 * 512;
+                let first = number * SAMPLE_BITS as u64;
                 let row = sample + (first..position).filter(|bit| has(words, *bit)).count() as u64;
                 if row >= self.count() {
                     return Err(8);
@@ -220,7 +222,7 @@ impl Given {
 
     /// A lookup: its result, and `place` as it leaves it.
     pub fn lookup(&self, id: u64, place: &[u64]) -> (u64, Vec<u64>) {
-        if place.len() < 2 {
+        if place.len() < PLACE {
             return (refused(11), place.to_vec());
         }
         if !self.fits() {

@@ -1,5 +1,6 @@
 //! The calls on sets, as acts on a plain set of numbers: which numbers below the capacity it has.
 
+use super::bounds::MAX_BITS;
 use super::*;
 
 /// The set in the words, or nothing where refusal 10 is due.

@@ -1,0 +1,60 @@
+//! What an index takes, and what a build takes meanwhile, as README says.
+
+use shawltide::{Index, Refusal, Room, GAMMA};
+use std::alloc::{GlobalAlloc, Layout, System};
+use std::sync::atomic::{AtomicUsize, Ordering::SeqCst};
+
+/// Bytes now, and the most so far.
+struct Counted {
+    now: AtomicUsize,
+    most: AtomicUsize,
+}
+
+#[global_allocator]
+static MEMORY: Counted = Counted {
+    now: AtomicUsize::new(0),
+    most: AtomicUsize::new(0),
+};
+
+unsafe impl GlobalAlloc for Counted {
+    unsafe fn alloc(&self, layout: Layout) -> *mut u8 {
+        let now = self.now.fetch_add(layout.size(), SeqCst) + layout.size();
+        self.most.fetch_max(now, SeqCst);
+        System.alloc(layout)
+    }
+
+    unsafe fn dealloc(&self, place: *mut u8, layout: Layout) {
+        self.now.fetch_sub(layout.size(), SeqCst);
+        System.dealloc(place, layout)
+    }
+}
+
+/// The bytes of an index of so many ids, and the most that its build took beside the ids.
+fn measured(count: u64, gamma: f64) -> Result<(usize, usize), Refusal> {
+    let ids: Vec<u64> = (1..=count).map(|i| i.wrapping_mul(0x9E37_79B9_7F4A_7C15)).collect();
+    let before = MEMORY.now.load(SeqCst);
+    MEMORY.most.store(before, SeqCst);
+    let index = Index::build(&ids, gamma)?;
+    let most = MEMORY.most.load(SeqCst) - before;
+    let kept = MEMORY.now.load(SeqCst) - before;
+    assert_eq!(8 * kept, index.bits());
+    Ok((kept, most))
+}
+
+/// One test, since the count is the whole program's.
+#[test]
+fn an_index_and_its_build() -> Result<(), Refusal> {
+    for (count, gamma) in [(0, GAMMA), (1_000, GAMMA), (1_000_000, GAMMA), (1_000_000, 16.0)] {
+        let (kept, most) = measured(count as u64, gamma)?;
+        let (room, first) = (Room::likely(count, gamma), Room::of_first_level(count, gamma));
+        let lent = 8 * (room.words + room.samples + first.words + count);
+        assert!(
+            kept <= most && most <= lent + kept,
+            "{count} ids: {kept}, {most}, {lent}"
+        );
+    }
+    let (kept, most) = measured(1_000_000, GAMMA)?;
+    assert!((429_000..432_000).contains(&kept), "{kept}");
+    assert!(most < 9_500_000, "{most}");
+    Ok(())
+}
