@@ -59,6 +59,6 @@ pub use repeat::first_repeat;
 pub use room::Room;
 pub use set::BitSet;
 
-/// The form in which an index is kept: a head of [`bounds::HEAD`] numbers, words and samples. A version that makes indexes of another form has another number
+/// The form in which an index is kept: a head of [`host::HEAD`] numbers, words and samples. A version that makes indexes of another form has another number
 /// here.
 pub const FORM: u64 = 1;
