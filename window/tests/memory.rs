@@ -2,29 +2,30 @@
 
 use shawltide::{Index, Refusal, Room, GAMMA};
 use std::alloc::{GlobalAlloc, Layout, System};
-use std::sync::atomic::{AtomicUsize, Ordering::SeqCst};
+use std::cell::Cell;
 
-/// Bytes now, and the most so far.
-struct Counted {
-    now: AtomicUsize,
-    most: AtomicUsize,
+thread_local! {
+    /// The bytes that this thread has now, and the most so far: other threads, as those of the test harness, do not count.
+    static NOW: Cell<isize> = const { Cell::new(0) };
+    static MOST: Cell<isize> = const { Cell::new(0) };
 }
 
+struct Counted;
+
 #[global_allocator]
-static MEMORY: Counted = Counted {
-    now: AtomicUsize::new(0),
-    most: AtomicUsize::new(0),
-};
+static MEMORY: Counted = Counted;
 
 unsafe impl GlobalAlloc for Counted {
     unsafe fn alloc(&self, layout: Layout) -> *mut u8 {
-        let now = self.now.fetch_add(layout.size(), SeqCst) + layout.size();
-        self.most.fetch_max(now, SeqCst);
+        NOW.with(|now| {
+            now.set(now.get() + layout.size() as isize);
+            MOST.with(|most| most.set(most.get().max(now.get())));
+        });
         System.alloc(layout)
     }
 
     unsafe fn dealloc(&self, place: *mut u8, layout: Layout) {
-        self.now.fetch_sub(layout.size(), SeqCst);
+        NOW.with(|now| now.set(now.get() - layout.size() as isize));
         System.dealloc(place, layout)
     }
 }
@@ -32,16 +33,15 @@ unsafe impl GlobalAlloc for Counted {
 /// The bytes of an index of so many ids, and the most that its build took beside the ids.
 fn measured(count: u64, gamma: f64) -> Result<(usize, usize), Refusal> {
     let ids: Vec<u64> = (1..=count).map(|i| i.wrapping_mul(0x9E37_79B9_7F4A_7C15)).collect();
-    let before = MEMORY.now.load(SeqCst);
-    MEMORY.most.store(before, SeqCst);
+    let before = NOW.with(Cell::get);
+    MOST.with(|most| most.set(before));
     let index = Index::build(&ids, gamma)?;
-    let most = MEMORY.most.load(SeqCst) - before;
-    let kept = MEMORY.now.load(SeqCst) - before;
+    let most = (MOST.with(Cell::get) - before) as usize;
+    let kept = (NOW.with(Cell::get) - before) as usize;
     assert_eq!(8 * kept, index.bits());
     Ok((kept, most))
 }
 
-/// One test, since the count is the whole program's.
 #[test]
 fn an_index_and_its_build() -> Result<(), Refusal> {
     for (count, gamma) in [(0, GAMMA), (1_000, GAMMA), (1_000_000, GAMMA), (1_000_000, 16.0)] {

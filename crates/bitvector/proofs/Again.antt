@@ -11,7 +11,7 @@ use Rattle.laws.specs.Bits.{has, wordsFor, packed}
 use Rattle.laws.proofs.Sums.{rank-none}
 use Rattle.laws.proofs.Words.{has-append}
 use Rattle.laws.proofs.Packing.{length-packed, packed-has}
-use Rattle.bitvector.specs.Sets.{Plain, none, allBelow, plus, minus, union, setOf, stored}
+use Rattle.bitvector.specs.Sets.{Plain, emptySet, allBelow, plus, minus, union, setOf, stored}
 use Rattle.bitvector.specs.Calls.{roomy, sound}
 use Rattle.bitvector.proofs.Soundness.{roomy-has}
 
@@ -46,8 +46,8 @@ module _ (capacity : ℕ) (s : Plain) (ws : List ℕ) (w : Within capacity s) wh
       rw (le-leb _ _ (r .bound), length-stored (r .words), le-leb _ _ (r .words), z)
 
 -- the sets of the calls
-pub none-within : (capacity : ℕ) → Within capacity none
-none-within capacity = record { past = λ b h. refl }
+pub empty-within : (capacity : ℕ) → Within capacity emptySet
+empty-within capacity = record { past = λ b h. refl }
 
 pub all-within : (capacity : ℕ) → Within capacity (allBelow capacity)
 all-within capacity = record { past = λ b h. le-ltb b capacity h }

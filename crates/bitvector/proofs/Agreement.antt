@@ -15,7 +15,8 @@ use Rattle.laws.proofs.Sums.{sum-split, sum-same, rank-same, rank-none, none-ra
 use Rattle.laws.proofs.Digits.{number-digit, shl-same}
 use Rattle.laws.proofs.Packing.{number-has, word-has}
 use Rattle.bitvector.specs.Sets.{Plain, sameBelow, setOf}
-use Rattle.bitvector.specs.Calls.{answered, sound, eqLeftCall}
+use Rattle.refusal.specs.Answers.{answered, untouched}
+use Rattle.bitvector.specs.Calls.{sound, eqLeftCall}
 
 -- ---- two plain sets
 
@@ -111,7 +112,7 @@ last-part ws us n e =
     ∙ sym (shl-same (getD ws i 0) (getD us i 0) k (omega arith))
 
 pub compared : (capacity : ℕ) (ws : List ℕ) (capacity₂ : ℕ) (us : List ℕ) (bit : ℕ) → sound capacity ws ≡ true → sound capacity₂ us ≡ true
-    → bit ≤ capacity → bit ≤ capacity₂ → answered (one (sameBits ws us bit)) ws ≡ eqLeftCall capacity ws capacity₂ us bit
+    → bit ≤ capacity → bit ≤ capacity₂ → answered (one (sameBits ws us bit)) untouched ≡ eqLeftCall capacity ws capacity₂ us bit
 compared capacity ws capacity₂ us bit f g h l =
     let same : sameBits ws us bit ≡ sameBelow (setOf capacity ws) (setOf capacity₂ us) bit =
     same-both (has ws) (has us) (setOf capacity ws) (setOf capacity₂ us) bit

@@ -11,13 +11,13 @@ use Rattle.laws.specs.Bits.{wordsFor, number, packed}
 use Rattle.laws.proofs.Cases.{Tri, tri, lt, eq, gt}
 use Rattle.laws.proofs.Digits.{number-low}
 use Rattle.laws.proofs.Packing.{packed-suc, packed-low}
-use Rattle.bitvector.specs.Sets.{none, allBelow, stored}
+use Rattle.bitvector.specs.Sets.{emptySet, allBelow, stored}
 
-pub emptied : (capacity : ℕ) (ws : List ℕ) → replicate (wordsFor capacity) 0 ++ drop (wordsFor capacity) ws ≡ stored capacity none ws
+pub emptied : (capacity : ℕ) (ws : List ℕ) → replicate (wordsFor capacity) 0 ++ drop (wordsFor capacity) ws ≡ stored capacity emptySet ws
 unfolding stored
 emptied capacity ws =
     ap (λ (l : List ℕ). l ++ drop (wordsFor capacity) ws)
-    (sym (packed-low (wordsFor capacity) 0 none (lit≤ tt) (λ i k l m. sym (le-ltb k 0 (omega arith)))))
+    (sym (packed-low (wordsFor capacity) 0 emptySet (lit≤ tt) (λ i k l m. sym (le-ltb k 0 (omega arith)))))
 
 -- the words below the capacity's own are full
 full-words : (capacity n : ℕ) → 64 * n ≤ capacity → packed n (allBelow capacity) ≡ replicate n (2 ^ 64 - 1)

@@ -17,7 +17,8 @@ use Rattle.laws.proofs.Digits.{number-or}
 use Rattle.laws.proofs.Packing.{word-has, length-packed, packed-below, packed-suc}
 use Rattle.bitvector.specs.Sets.{Plain, union, sameBelow, setOf, stored}
 use Rattle.bitvector.specs.Steps.{eitherBits, Joined}
-use Rattle.bitvector.specs.Calls.{answered, sound, insertAllCall}
+use Rattle.refusal.specs.Answers.{answered}
+use Rattle.bitvector.specs.Calls.{sound, insertAllCall}
 use Rattle.bitvector.proofs.Soundness.{set-bits}
 use Rattle.bitvector.proofs.Agreement.{same-next, same-past, same-both}
 

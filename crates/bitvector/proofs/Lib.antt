@@ -7,4 +7,4 @@ pub mod Agreement
 pub mod Joining
 pub mod Again
 pub mod Unique
-pub mod Rows
+pub mod Examples

@@ -21,7 +21,9 @@ use Rattle.laws.proofs.Digits.{digit-lt, down-le, down-same, down-other, one-sh
 use Rattle.laws.proofs.Words.{has-digit}
 use Rattle.bitvector.specs.Sets.{Plain, rising, setOf}
 use Rattle.bitvector.specs.Steps.{places}
-use Rattle.bitvector.specs.Calls.{answered, sound, membersCall}
+use Rattle.refusal.specs.Answers.{answered, refused}
+use Rattle.refusal.specs.declared.Refusal.the-variants.{ShortOutput}
+use Rattle.bitvector.specs.Calls.{sound, membersCall}
 use Rattle.bitvector.proofs.Soundness.{stray, set-size}
 
 -- ---- one word
@@ -155,7 +157,7 @@ module _ (capacity : ℕ) (ws : List ℕ) (s : sound capacity ws ≡ true) where
       rw (s, ← n, le-leb size (length out) h) (ap (answered size) g)
 
   pub no-room : (out : List ℕ) (size : ℕ) → size ≡ rank (has ws) (64 * wordsFor capacity) → length out < size
-      → record { refusal = 11; value = 0; store = out } ≡ membersCall capacity ws out
+      → refused out ShortOutput ≡ membersCall capacity ws out
   no-room out size e h =
       let n : size ≡ rank (setOf capacity ws) capacity = e ∙ set-size capacity ws s in
       rw (s, ← n, lt-leb size (length out) h)

@@ -1,4 +1,4 @@
--- What 01's check of a store says of its bits: the needed words are there, and none of their bits stands at or past the capacity. Assumes nothing.
+-- What the check of a store says of its bits: the needed words are there, and none of their bits stands at or past the capacity. Assumes nothing.
 use mathlib.Core.Path.{_≡_, refl, sym, ap, ap₂, _∙_}
 use mathlib.Core.Bool.{Bool, true, false, not, _&&_, false≢true}
 use mathlib.Core.List.{List}
@@ -16,15 +16,17 @@ use Rattle.laws.proofs.Cases.{eqb-both, both}
 use Rattle.laws.proofs.Sums.{none-rank, rank-same, sum-split}
 use Rattle.laws.proofs.Digits.{ones-none, ones-zero}
 use Rattle.laws.proofs.Ones.{rank-rest}
+use Rattle.refusal.specs.declared.Said.{Said}
+use Rattle.refusal.specs.Answers.{said, answered}
 use Rattle.bitvector.specs.Sets.{setOf}
+use Rattle.bitvector.specs.Steps.{saidIf}
 use Rattle.bitvector.specs.Calls.{roomy, sound}
 
--- a check that the code makes by `!`
-pub passed : {t u : Bool} → t ≡ u → not t ≡ false → u ≡ true
-passed {t} e h = sym e ∙ not-false t h
-
-pub failed : {t u : Bool} → t ≡ u → not t ≡ true → u ≡ false
-failed {t} e h = sym e ∙ not-true t h
+-- an answer that is yes or no
+pub yes-said : {Stores : Type 0} {r : Said} (b : Bool) → r ≡ saidIf b → (s : Stores) → said r s ≡ answered (one b) s
+unfolding saidIf
+yes-said true e s = rw e
+yes-said false e s = rw e
 
 pub record Roomy (capacity : ℕ) (ws : List ℕ) : Type 0 where
   pub bound : capacity ≤ maxBits

@@ -12,7 +12,8 @@ use Rattle.laws.specs.Bits.{has, Words, wordsFor, withBit, withoutBit}
 use Rattle.laws.proofs.Words.{Put, with-put, without-put, put-length, put-drop, put-words, put-has}
 use Rattle.laws.proofs.Packing.{packed-store}
 use Rattle.bitvector.specs.Sets.{Plain, plus, minus, setOf, stored}
-use Rattle.bitvector.specs.Calls.{answered, sound, containsCall, insertCall, removeCall}
+use Rattle.refusal.specs.Answers.{answered, untouched}
+use Rattle.bitvector.specs.Calls.{sound, containsCall, insertCall, removeCall}
 use Rattle.bitvector.proofs.Soundness.{sound-room, set-bits}
 
 module _ (capacity : ℕ) (ws : List ℕ) (bit : ℕ) (s : sound capacity ws ≡ true) (h : bit < capacity) where
@@ -29,7 +30,7 @@ module _ (capacity : ℕ) (ws : List ℕ) (bit : ℕ) (s : sound capacity ws ≡
       (λ b l. e b ∙ ap (λ (x : Bool). cond (eqb b bit) t x) (set-bits capacity ws s b l) ∙ sym (put-has p bit-word b))
       (put-drop p n (omega arith))
 
-  pub contained : answered (one (has ws bit)) ws ≡ containsCall capacity ws bit
+  pub contained : answered (one (has ws bit)) untouched ≡ containsCall capacity ws bit
   contained = rw (s, lt-ltb _ _ h)
 
   pub inserted : Words ws → answered (one (not (has ws bit))) (withBit ws bit) ≡ insertCall capacity ws bit

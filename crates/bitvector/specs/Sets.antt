@@ -1,4 +1,4 @@
--- Plain sets of numbers and the acts on them, which 01's calls perform on words; and how words hold a plain set.
+-- Plain sets of numbers and the acts on them, which the calls perform on words; and how words hold a plain set.
 use Prim.Native.Nat.{ℕ}
 use mathlib.Core.Bool.{Bool, false, not, cond, _||_, _&&_, Bool·beq}
 use mathlib.Core.List.{List, [], _∷_, _++_}
@@ -12,8 +12,8 @@ abbrev pub Plain : Type 0
 Plain = ℕ → Bool
 
 -- no number; every number below n
-abbrev pub none : Plain
-none = λ b. false
+abbrev pub emptySet : Plain
+emptySet = λ b. false
 
 abbrev pub allBelow : ℕ → Plain
 allBelow n = λ b. ltb b n

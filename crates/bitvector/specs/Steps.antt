@@ -1,4 +1,4 @@
--- The steps that the calls and the levels share, in words that are there.
+-- The steps of the calls, in words that are there.
 use Prim.Native.Nat.{ℕ, _+_, _*_}
 use mathlib.Core.Path.{_≡_}
 use mathlib.Core.Bool.{Bool, not, cond}
@@ -7,21 +7,22 @@ use lib.Count.{ones}
 use lib.Dec.{eqb}
 use lib.ListN.{drop}
 use lib.Seq.{sets}
+use Rattle.refusal.specs.declared.Said.{Said}
+use Rattle.refusal.specs.declared.Said.the-variants as S
 use Rattle.laws.specs.Counting.{blocks}
 use Rattle.laws.specs.Bits.{digit, has, packed}
 use Rattle.bitvector.specs.Sets.{Plain, union, sameBelow}
 
--- one bit: whether it was set before is told, and the words become those that the step names
-pub record Step (ws : List ℕ) (bit : ℕ) (next : List ℕ) (told : Bool) (after : List ℕ) : Type 0 where
-  pub old : told ≡ has ws bit
-  pub words : after ≡ next
+-- a bool as an answer
+unfoldable pub saidIf : Bool → Said
+saidIf b = cond b S.Yes S.No
 
 -- the places of the set digits of a word, rising, the lowest digit's place being base
 unfoldable pub places : ℕ → ℕ → List ℕ
 places base w = blocks (λ k. cond (eqb (digit w k) 1) ((base + k) ∷ []) []) 64
 
 -- they stand in the store from `start` on, and the next place is told
-pub record Listed (base w start : ℕ) (out : List ℕ) (next : ℕ) (after : List ℕ) : Type 0 where
+pub record WordListed (base w start : ℕ) (out : List ℕ) (next : ℕ) (after : List ℕ) : Type 0 where
   pub told : next ≡ start + ones w
   pub store : after ≡ sets out start (places base w)
 

@@ -1,4 +1,4 @@
--- The bounds of 01, for definitions and promises: `src/lib.rt` has the same for the code.
+-- The bounds of an index, and how far apart its samples stand, for definitions and promises: `src/lib.rt` has the same for the code.
 use Prim.Native.Nat.{ℕ}
 
 -- the most ids
@@ -12,6 +12,21 @@ maxBits = 16_777_216
 abbrev pub minBits : ℕ
 minBits = 255
 
--- how many levels there can be, and how many sizes a head has
+-- how many levels a build may come to: 0 to 99
+abbrev pub levelLimit : ℕ
+levelLimit = 100
+
+-- how many sizes a head has
+abbrev pub headSizes : ℕ
+headSizes = 100
+
+-- the most levels that a head may name
 abbrev pub maxLevels : ℕ
 maxLevels = 100
+
+-- there is a sample for every so many words of a level, and so for every so many bits
+abbrev pub sampleWords : ℕ
+sampleWords = 8
+
+abbrev pub sampleBits : ℕ
+sampleBits = 512

@@ -11,8 +11,8 @@ use lib.Dec.{lit<}
 use lib.Ieee.{Float}
 use lib.ListN.{length, getD, take, drop, List·getD-append}
 use lib.Seq.{take-at, drop-at}
-use Rattle.bounds.specs.Bounds.{maxIds, maxLevels}
-use Rattle.demands.specs.Demands.{setBefore, samplesBy, FromWords}
+use Rattle.bounds.specs.Bounds.{maxIds, levelLimit, sampleBits}
+use Rattle.demands.specs.Levels.{EachLevel, EachLevelLeft, setBefore, samplesBy, FromWords}
 use Rattle.laws.specs.Counting.{sum, blocks}
 use Rattle.laws.specs.Bits.{has, wordsFor}
 use Rattle.laws.proofs.Blocks.{length-blocks, blocks-at, blocks-same}
@@ -20,25 +20,33 @@ use Rattle.laws.proofs.Cases.{Tri, lt, eq, gt, tri}
 use Rattle.laws.proofs.Packing.{packed-has}
 use Rattle.laws.proofs.Sums.{sum-same, sum-ones}
 use Rattle.mixer.specs.Position.{position}
-use Rattle.mphf.specs.Index.{filled, ruleOf, roomOf, wordsAt, samplesAt, indexWords, indexSamples, indexSizes, indexHead}
-use Rattle.mphf.specs.Layout.{samplesOfSize, sizeAt, levelWords, levelSamples, fit}
-use Rattle.mphf.specs.Lookup.{Answer, found, nothing, levelAnswer, findIn, lookupCall}
-use Rattle.mphf.specs.declared.fitting.Head.{Head}
-use Rattle.mphf.proofs.Finds.{lookup-fit, row-good}
-use Rattle.mphf.proofs.Fits.{fit-is}
-use Rattle.mphf.proofs.Indexes.{length-filled, length-words-at, length-samples-at, length-words, length-samples-to, length-sizes}
-use Rattle.mphf.proofs.Runs.{rule-sound}
+use Rattle.laws.specs.Stores.{filled}
+use Rattle.head.specs.Index.{ruleOf, roomOf, wordsAt, samplesAt, indexWords, indexSamples, indexSizes, indexHead}
+use Rattle.head.specs.Layout.{samplesOfSize, sizeAt, levelWords, levelSamples, fit}
+use Rattle.finding.specs.Find.{Answer, found, nothing, levelAnswer, findIn}
+use Rattle.lookup.specs.Lookup.{lookupCall}
+use Rattle.head.specs.declared.Head.{Head}
+use Rattle.lookup.proofs.Lookups.{lookup-fit}
+use Rattle.finding.proofs.Finds.{row-good}
+use Rattle.head.proofs.Fits.{fit-is}
+use Rattle.head.proofs.Indexes.{length-filled, length-words-at, length-samples-at, length-words, length-samples-to, length-sizes, rule-sound}
 use Rattle.ranks.specs.Ranks.{setBits, samplesOf, onesFrom}
 use Rattle.ranks.proofs.ByRule.{next-base}
 use Rattle.ranks.proofs.Samples.{rank-by-sample}
-use Rattle.rule.specs.Demand.{Ends, none-left, out-of-room, at-limit}
-use Rattle.rule.specs.Rule.{Rule, Room, Place, left, span, bit, start, base, rowAt, first, place, find, run, built}
+use Rattle.rule.specs.Rule.{Rule, Room, RowPlace, remaining, span, bit, start, ones, base, rowAt, first, place, find, run, built}
 use Rattle.rule.proofs.Level.{unset-past}
-use Rattle.rule.proofs.Levels.{left-fewer, all-accounted, spot-lt}
+use Rattle.rule.proofs.Levels.{remaining-fewer, levels, all-accounted, spot-lt}
 use Rattle.rule.proofs.Reader.{SameLevels, base-agrees, first-has, lookup-agrees, lookup-lt}
-use Rattle.rule.proofs.Run.{run-ends, room-words, room-samples}
+use Rattle.rule.proofs.Run.{built-known, room-words, room-samples}
 use Rattle.sizes.specs.Gamma.{Allowed}
-use Rattle.sizes.proofs.Sizes.{size-least, size-most}
+use Rattle.sizes.proofs.Sizes.{size-least, size-most, size-mono}
+
+-- ---- the levels of an index's rule
+
+pub each-level : (gamma : Float) (ids : List ℕ) → EachLevel gamma ids
+each-level gamma ids =
+    let l = levels (ruleOf gamma) ids (rule-sound gamma) in
+    record { balance = l .balance; no-rise = l .no-rise (λ m n h k. size-mono gamma m n h) }
 
 -- ---- one of several lists that lie one after another in a store
 
@@ -60,31 +68,26 @@ block-part f w e (suc n) i h past = rw (append-assoc (blocks f n) (f n) past) (g
 
 pub record Finished (rule : Rule) (room : Room) (ids : List ℕ) (n : ℕ) : Type 0 where
   pub some-level : 1 ≤ n
-  pub few-levels : n ≤ maxLevels
-  pub none-left : left rule ids n ≡ []
+  pub few-levels : n ≤ levelLimit
+  pub none-left : remaining rule ids n ≡ []
   pub in-words : start (room .words) (span rule ids) n ≤ room .wordRoom
   pub in-samples : start (room .samples) (span rule ids) n ≤ room .sampleRoom
 
-pub run-done : (rule : Rule) (room : Room) (ids : List ℕ) (n : ℕ) → run rule room ids maxLevels ≡ built n → Finished rule room ids n
-run-done rule room ids n ran = go (run-ends rule room ids maxLevels)
-  where
-    go : Ends rule room ids maxLevels (run rule room ids maxLevels) → Finished rule room ids n
-    go (none-left i h r f d q) =
-        let z : suc i ≡ n = cc in
-        rw (← z) (record {
-          some-level = omega arith;
-          few-levels = h;
-          none-left = d;
-          in-words = room-words rule room ids (suc i) f;
-          in-samples = room-samples rule room ids (suc i) f;
-        })
-    go (out-of-room i h r f q) = let z : _≡_ {A = ℕ} 0 1 = cc in absurd (omega arith)
-    go (at-limit r q) = let z : _≡_ {A = ℕ} 0 1 = cc in absurd (omega arith)
+pub run-done : (rule : Rule) (room : Room) (ids : List ℕ) (n : ℕ) → run rule room ids levelLimit ≡ built n → Finished rule room ids n
+run-done rule room ids n ran =
+    let k = built-known rule room ids levelLimit n ran in
+    rw (← (k .1)) (record {
+      some-level = omega arith;
+      few-levels = k .2;
+      none-left = k .5;
+      in-words = room-words rule room ids (suc (k .0)) (k .4);
+      in-samples = room-samples rule room ids (suc (k .0)) (k .4);
+    })
 
 -- ---- the index of n levels that a build leaves
 
-abbrev pub headOf : Float → List ℕ → ℕ → Head
-headOf gamma ids n = indexHead (ruleOf gamma) ids n
+abbrev pub builtHead : Float → List ℕ → ℕ → Head
+builtHead gamma ids n = indexHead (ruleOf gamma) ids n
 
 abbrev pub wordsIn : Float → List ℕ → ℕ → ℕ → List ℕ
 wordsIn gamma ids n room = filled (indexWords (ruleOf gamma) ids n) room
@@ -93,9 +96,9 @@ abbrev pub samplesIn : Float → List ℕ → ℕ → ℕ → List ℕ
 samplesIn gamma ids n room = filled (indexSamples (ruleOf gamma) ids n) room
 
 -- a lookup's answer, where the level rule finds a place or none
-abbrev pub answered : Option Place → Answer
-answered none = nothing
-answered (some u) = found u
+abbrev pub asAnswer : Option RowPlace → Answer
+asAnswer none = nothing
+asAnswer (some u) = found u
 
 module _ (gamma : Float) (ids : List ℕ) (wordRoom sampleRoom n : ℕ) where
   -- by the rule: the size and the bits of each level
@@ -116,7 +119,7 @@ module _ (gamma : Float) (ids : List ℕ) (wordRoom sampleRoom n : ℕ) where
   Samples = samplesIn gamma ids n sampleRoom
 
   abbrev Size : ℕ → ℕ
-  Size = sizeAt (headOf gamma ids n .sizes)
+  Size = sizeAt (builtHead gamma ids n .sizes)
 
   abbrev Read : ℕ → ℕ → Bool
   Read i = has (levelWords Size Words i)
@@ -158,9 +161,9 @@ module _ (gamma : Float) (ids : List ℕ) (wordRoom sampleRoom n : ℕ) where
   -- ---- samples from the words
 
   bit-past : (i q : ℕ) → Span i ≤ q → Bits i q ≡ false
-  bit-past i q h = unset-past (rule .pos i (Span i)) (left rule ids i) (Span i) (spot-lt rule ids (rule-sound gamma) i) q h
+  bit-past i q h = unset-past (rule .pos i (Span i)) (remaining rule ids i) (Span i) (spot-lt rule ids (rule-sound gamma) i) q h
 
-  set-before : (i : ℕ) → i ≤ n → setBefore (headOf gamma ids n) Words i ≡ base Span Bits i
+  set-before : (i : ℕ) → i ≤ n → setBefore (builtHead gamma ids n) Words i ≡ base Span Bits i
   set-before zero h = refl
   set-before (suc i) h =
       let m : ℕ = wordsFor (Span i) in
@@ -173,7 +176,18 @@ module _ (gamma : Float) (ids : List ℕ) (wordRoom sampleRoom n : ℕ) where
             (λ q k t. packed-has m (Bits i) q (omega arith) ∙ bit-past i q k),
       )
 
-  samples-by : (i : ℕ) → i < n → samplesAt rule ids i ≡ samplesBy (headOf gamma ids n) Words i
+  -- ---- each level
+
+  set-here : (i : ℕ) → i < n → setBits (levelWords Size Words i) ≡ ones Span Bits i
+  set-here i h = omega (arith, set-before i (omega arith), set-before (suc i) h)
+
+  pub levels-left : EachLevelLeft gamma ids (builtHead gamma ids n) (wordsIn gamma ids n wordRoom)
+  levels-left = record {
+    balance = λ i h. omega (arith, set-here i h, each-level gamma ids .balance i);
+    no-rise = λ i j h l. omega (arith, size-is i (omega arith), size-is j l, each-level gamma ids .no-rise i j h);
+  }
+
+  samples-by : (i : ℕ) → i < n → samplesAt rule ids i ≡ samplesBy (builtHead gamma ids n) Words i
   samples-by i h = sym (ap₂ (λ (b : ℕ) (ws : List ℕ). samplesOf b ws) (set-before i (omega arith)) (words-are i h))
 
   module _ (done : Finished (ruleOf gamma) (roomOf wordRoom sampleRoom) ids n) where
@@ -183,7 +197,7 @@ module _ (gamma : Float) (ids : List ℕ) (wordRoom sampleRoom n : ℕ) where
     samples-long : length Samples ≡ sampleRoom
     samples-long = length-filled (indexSamples rule ids n) sampleRoom (rw (length-samples-to rule ids n) (done .in-samples))
 
-    pub from-words : FromWords (headOf gamma ids n) (wordsIn gamma ids n wordRoom) (samplesIn gamma ids n sampleRoom)
+    pub from-words : FromWords (builtHead gamma ids n) (wordsIn gamma ids n wordRoom) (samplesIn gamma ids n sampleRoom)
     unfolding indexSamples
     from-words = record {
       level = λ i h. samples-are i h ∙ samples-by i h;
@@ -193,17 +207,17 @@ module _ (gamma : Float) (ids : List ℕ) (wordRoom sampleRoom n : ℕ) where
     module _ (allowed : Allowed gamma) (few : length ids ≤ maxIds) where
       -- ---- it fits
 
-      fewer : (i : ℕ) → length (left rule ids i) ≤ length ids
-      unfolding left
-      fewer i = left-fewer rule ids 0 i (omega arith)
+      fewer : (i : ℕ) → length (remaining rule ids i) ≤ length ids
+      unfolding remaining
+      fewer i = remaining-fewer rule ids 0 i (omega arith)
 
-      pub index-fits : fit (length ids) n (headOf gamma ids n .sizes) (length (wordsIn gamma ids n wordRoom)) (length (samplesIn gamma ids n sampleRoom)) ≡ true
+      pub index-fits : fit (length ids) n (builtHead gamma ids n .sizes) (length (wordsIn gamma ids n wordRoom)) (length (samplesIn gamma ids n sampleRoom)) ≡ true
       index-fits =
-          rw (words-long, samples-long) (fit-is (length ids) n (headOf gamma ids n .sizes) wordRoom sampleRoom (record {
+          rw (words-long, samples-long) (fit-is (length ids) n (builtHead gamma ids n .sizes) wordRoom sampleRoom (record {
             some-level = done .some-level;
             few-levels = done .few-levels;
-            size-least = λ i h. rw (size-is i h) (size-least gamma (length (left rule ids i)));
-            size-most = λ i h. rw (size-is i h) (size-most gamma (length (left rule ids i)) allowed (omega (arith, fewer i)));
+            size-least = λ i h. rw (size-is i h) (size-least gamma (length (remaining rule ids i)));
+            size-most = λ i h. rw (size-is i h) (size-most gamma (length (remaining rule ids i)) allowed (omega (arith, fewer i)));
             few-ids = few;
             word-room = rw (start-is wordsFor n (omega arith)) (done .in-words);
             sample-room = rw (start-is samplesOfSize n (omega arith)) (done .in-samples);
@@ -219,7 +233,7 @@ module _ (gamma : Float) (ids : List ℕ) (wordRoom sampleRoom n : ℕ) where
 
       -- the first level that has the bit of x gives the row that a reader has by the sizes and bits alone
       level-is : (x i : ℕ) → first position Size Read n 0 x ≡ some i
-          → levelAnswer (length ids) Size Words Samples x (some i) ≡ answered (place position Size Read x (some i))
+          → levelAnswer position (length ids) Size Words Samples x (some i) ≡ asAnswer (place position Size Read x (some i))
       level-is x i e =
           let h : i < n = omega (arith, first-has position Size Read n 0 i x e .1) in
           let p : ℕ = position i (Size i) x in
@@ -229,22 +243,22 @@ module _ (gamma : Float) (ids : List ℕ) (wordRoom sampleRoom n : ℕ) where
           let l : length ws ≡ wordsFor (Span i) = ap length (words-are i h) ∙ length-words-at rule ids i in
           let sampled : ss ≡ samplesOf before ws
           = samples-are i h ∙ sym (ap₂ (λ (b : ℕ) (us : List ℕ). samplesOf b us) (base-is i (omega arith)) (words-are i h)) in
-          let row-is : getD ss (p / 512) 0 + onesFrom ws p ≡ rowAt Size Read i p
+          let row-is : getD ss (p / sampleBits) 0 + onesFrom ws p ≡ rowAt Size Read i p
           = rw sampled (rank-by-sample before ws p (omega (arith, pos-lt i x h, size-is i h))) in
-          let u : Place = record { row = rowAt Size Read i p; level = i; position = p } in
+          let u : RowPlace = record { row = rowAt Size Read i p; level = i; position = p } in
           let row-lt : u .row < base Size Read n = lookup-lt position Size Read n pos-lt x {u = u} (ap (place position Size Read x) e) in
           row-good (length ids) ws ss i p (omega (arith, all-set)) (omega (arith, all-set))
           ∙ ap (λ (k : ℕ). found (record { row = k; level = i; position = p })) row-is
 
       pub lookup-is : (x : ℕ)
-          → lookupCall (headOf gamma ids n) (wordsIn gamma ids n wordRoom) (samplesIn gamma ids n sampleRoom) x ≡ answered (find (ruleOf gamma) ids n x)
+          → lookupCall (builtHead gamma ids n) (wordsIn gamma ids n wordRoom) (samplesIn gamma ids n sampleRoom) x ≡ asAnswer (find (ruleOf gamma) ids n x)
       unfolding findIn
       lookup-is x =
-          sym (lookup-fit (headOf gamma ids n) Words Samples x index-fits)
+          sym (lookup-fit (builtHead gamma ids n) Words Samples x index-fits)
           ∙ go (first position Size Read n 0 x) refl
-          ∙ ap answered (lookup-agrees Size Span Read Bits n same-levels position pos-lt x)
+          ∙ ap asAnswer (lookup-agrees Size Span Read Bits n same-levels position pos-lt x)
         where
           go : (o : Option ℕ) → first position Size Read n 0 x ≡ o
-              → levelAnswer (length ids) Size Words Samples x o ≡ answered (place position Size Read x o)
+              → levelAnswer position (length ids) Size Words Samples x o ≡ asAnswer (place position Size Read x o)
           go none e = refl
           go (some i) e = level-is x i e

@@ -13,10 +13,11 @@ use lib.Dec.{eqb, lit<}
 use lib.Ieee.{Float}
 use lib.ListN.{length, getD}
 use lib.Seq.{ext-getD}
-use Rattle.bitvector.specs.declared.Made.the-variants as M
+use Rattle.refusal.specs.declared.Made.the-variants as M
 use Rattle.bounds.specs.Bounds.{maxIds}
-use Rattle.demands.specs.Demands.{roomIn, Lookups, listedAs, Listed, Indexed, Demand3, samplesBy, FromWords}
-use Rattle.demands.proofs.Built.{Finished, run-done, headOf, wordsIn, samplesIn, answered, index-fits, lookup-is, from-words}
+use Rattle.demands.specs.Demands.{roomIn, Lookups, listedAs, IndexRows, Indexed, Demand3}
+use Rattle.demands.specs.Levels.{EachLevelLeft, samplesBy, FromWords}
+use Rattle.demands.proofs.Built.{Finished, run-done, builtHead, wordsIn, samplesIn, asAnswer, index-fits, lookup-is, levels-left, from-words}
 use Rattle.demands.proofs.Order.{rows-any-order, build-any-order}
 use Rattle.demands.proofs.Room.{accepted, refusals}
 use Rattle.laws.specs.Bits.{wordsFor}
@@ -25,19 +26,21 @@ use Rattle.laws.proofs.Blocks.{blocks-same, blocks-at, length-blocks}
 use Rattle.laws.proofs.Cases.{Tri, lt, eq, gt, tri, one-eq}
 use Rattle.laws.proofs.Counts.{same-length, length-sift, count-sift, count-at, only}
 use Rattle.laws.proofs.Sums.{sum-ones}
-use Rattle.mphf.specs.Build.{BuildEnd, builtOf, buildCall}
-use Rattle.mphf.specs.Index.{Stores, filled, ruleOf, roomOf}
-use Rattle.mphf.specs.Lookup.{found, nothing, answerOf, lookupCall}
-use Rattle.mphf.specs.Rows.{rowIn, isNone, isRow, apart, listed, rowsBy, rowsCall}
-use Rattle.mphf.specs.declared.finding.Found.the-variants as F
-use Rattle.mphf.specs.declared.fitting.Head.{Head}
-use Rattle.mphf.proofs.Lists.{apart-is}
-use Rattle.mphf.proofs.Runs.{rule-sound}
+use Rattle.build.specs.Build.{BuildEnd, builtOf, buildCall, Stores}
+use Rattle.laws.specs.Stores.{filled}
+use Rattle.head.specs.Index.{ruleOf, roomOf}
+use Rattle.finding.specs.Find.{found, nothing, answerOf, rowIn}
+use Rattle.lookup.specs.Lookup.{lookupCall}
+use Rattle.rows.specs.Rows.{isNone, isRow, apart, listed, rowsBy, rowsCall}
+use Rattle.finding.specs.declared.Found.the-variants as F
+use Rattle.head.specs.declared.Head.{Head}
+use Rattle.rows.proofs.Lists.{apart-is}
+use Rattle.head.proofs.Indexes.{rule-sound}
 use Rattle.refusal.specs.declared.Refusal.{Refusal}
 use Rattle.rule.specs.Demand.{Perfect}
-use Rattle.rule.specs.Rule.{Rule, Place, rowOf, find, row, rowList}
+use Rattle.rule.specs.Rule.{Rule, RowPlace, rowOf, find, row, rowList}
 use Rattle.rule.proofs.Reader.{row-found}
-use Rattle.rule.proofs.Rows.{perfect}
+use Rattle.rule.proofs.RowLaws.{perfect}
 use Rattle.sizes.specs.Gamma.{Allowed}
 
 -- ---- lists
@@ -61,11 +64,11 @@ by-members xs =
 
 -- ---- answers
 
-answered-place : (o : Option Place) (u : Place) → answered o ≡ found u → o ≡ some u
+answered-place : (o : Option RowPlace) (u : RowPlace) → asAnswer o ≡ found u → o ≡ some u
 answered-place none u e = let z : _≡_ {A = ℕ} 0 1 = cc in absurd (omega arith)
 answered-place (some v) u e = cc
 
-answered-row : (o : Option Place) → rowIn (answered o) ≡ rowOf o
+answered-row : (o : Option RowPlace) → rowIn (asAnswer o) ≡ rowOf o
 answered-row none = refl
 answered-row (some u) = refl
 
@@ -118,7 +121,7 @@ module _ (gamma : Float) (ids : List ℕ) (wordRoom sampleRoom n : ℕ) (done : 
 
   -- the head and the stores, and the row list
   abbrev Top : Head
-  Top = headOf gamma ids n
+  Top = builtHead gamma ids n
 
   abbrev Words : List ℕ
   Words = wordsIn gamma ids n wordRoom
@@ -132,21 +135,21 @@ module _ (gamma : Float) (ids : List ℕ) (wordRoom sampleRoom n : ℕ) (done : 
   hash : Perfect rule ids n
   hash = perfect rule ids (rule-sound gamma) n (done .none-left)
 
-  look : (x : ℕ) → lookupCall Top Words Samples x ≡ answered (find rule ids n x)
+  look : (x : ℕ) → lookupCall Top Words Samples x ≡ asAnswer (find rule ids n x)
   look x = lookup-is gamma ids wordRoom sampleRoom n done allowed few x
 
   -- a place that is found is the rule's, and its row too
-  place-is : (x : ℕ) (u : Place) → lookupCall Top Words Samples x ≡ found u → find rule ids n x ≡ some u
+  place-is : (x : ℕ) (u : RowPlace) → lookupCall Top Words Samples x ≡ found u → find rule ids n x ≡ some u
   place-is x u e = answered-place (find rule ids n x) u (sym (look x) ∙ e)
 
-  row-is : (x : ℕ) (u : Place) → lookupCall Top Words Samples x ≡ found u → row rule ids n x ≡ some (u .row)
+  row-is : (x : ℕ) (u : RowPlace) → lookupCall Top Words Samples x ≡ found u → row rule ids n x ≡ some (u .row)
   row-is x u e = ap rowOf (place-is x u e)
 
   -- what has a row is found there
-  found-at : (x k : ℕ) → row rule ids n x ≡ some k → (u : Place) × (lookupCall Top Words Samples x ≡ found u) × (u .row ≡ k)
+  found-at : (x k : ℕ) → row rule ids n x ≡ some k → (u : RowPlace) × (lookupCall Top Words Samples x ≡ found u) × (u .row ≡ k)
   found-at x k e =
       let f = row-found (find rule ids n x) k e in
-      (f .0, look x ∙ ap answered (f .1), f .2)
+      (f .0, look x ∙ ap asAnswer (f .1), f .2)
 
   once : (x : ℕ) → 0 < count x ids → count x ids ≡ 1
   once x h = omega (arith, hash .listed x h, hash .list-same .counts x)
@@ -171,10 +174,10 @@ module _ (gamma : Float) (ids : List ℕ) (wordRoom sampleRoom n : ℕ) (done : 
       at-most x (eq e) = omega arith
       at-most x (gt h) = absurd (omega arith)
 
-      any : (x : ℕ) (o : Option Place) → find rule ids n x ≡ o
-          → (lookupCall Top Words Samples x ≡ nothing) ⊎ ((u : Place) × (lookupCall Top Words Samples x ≡ found u) × (u .row < length ids))
-      any x none e = inl (look x ∙ ap answered e)
-      any x (some u) e = inr (u, look x ∙ ap answered e, hash .row-lt x (u .row) (ap rowOf e))
+      any : (x : ℕ) (o : Option RowPlace) → find rule ids n x ≡ o
+          → (lookupCall Top Words Samples x ≡ nothing) ⊎ ((u : RowPlace) × (lookupCall Top Words Samples x ≡ found u) × (u .row < length ids))
+      any x none e = inl (look x ∙ ap asAnswer e)
+      any x (some u) e = inr (u, look x ∙ ap asAnswer e, hash .row-lt x (u .row) (ap rowOf e))
 
   -- ---- the row list
 
@@ -189,7 +192,7 @@ module _ (gamma : Float) (ids : List ℕ) (wordRoom sampleRoom n : ℕ) (done : 
       (ap (λ (f : ℕ → Option ℕ). rowsBy f (length ids) ids rows marks) (fun-ext row-rule)
       ∙ rows-are (row rule ids n) ids Rows once (hash .has-row) (hash .one-row) (hash .list-same) (hash .list-row) rows marks)
 
-  listing : Listed ids (lookupCall Top Words Samples) (rowsCall Top Words Samples) Rows
+  listing : IndexRows ids (lookupCall Top Words Samples) (rowsCall Top Words Samples) Rows
   listing = record {
     succeeds = λ given rows marks s p q. rows-any-order Top Words Samples rows marks s ∙ call rows marks p q;
     every-id = hash .listed;
@@ -221,11 +224,18 @@ module _ (gamma : Float) (ids : List ℕ) (s : Stores) where
 
   -- The samples of an accepted build are those that its head and its words give.
   pub samples-from-words : buildCall gamma ids s .refusal ≡ 0
-      → FromWords (buildCall gamma ids s .head) (buildCall gamma ids s .stores .words) (buildCall gamma ids s .stores .samples)
+      → FromWords (buildCall gamma ids s .after .head) (buildCall gamma ids s .after .stores .words) (buildCall gamma ids s .after .stores .samples)
   samples-from-words done =
       let a = accepted gamma ids s done in
-      subst (λ (x : BuildEnd). FromWords (x .head) (x .stores .words) (x .stores .samples)) (sym (a .call-is))
+      subst (λ (x : BuildEnd). FromWords (x .after .head) (x .after .stores .words) (x .after .stores .samples)) (sym (a .call-is))
       (from-words gamma ids (length (s .words)) (length (s .samples)) (a .levels) (run-done (ruleOf gamma) (roomIn s) ids (a .levels) (a .ran)))
+
+  -- In each of its levels the ones in its words and the ids going on are as many as the ids that came in, and its sizes never rise.
+  pub levels-balance : buildCall gamma ids s .refusal ≡ 0 → EachLevelLeft gamma ids (buildCall gamma ids s .after .head) (buildCall gamma ids s .after .stores .words)
+  levels-balance done =
+      let a = accepted gamma ids s done in
+      subst (λ (x : BuildEnd). EachLevelLeft gamma ids (x .after .head) (x .after .stores .words)) (sym (a .call-is))
+      (levels-left gamma ids (length (s .words)) (length (s .samples)) (a .levels))
 
 -- so that there is one sample store of a given length for a head and its words
 pub samples-decided : (head : Head) (words ss ts : List ℕ) → FromWords head words ss → FromWords head words ts → length ss ≡ length ts → ss ≡ ts
@@ -234,7 +244,7 @@ samples-decided head words ss ts e f l = e .store ∙ ap (filled (blocks (sample
 -- ---- no lookup in an index is refused, by the promise of `lookup`: its answer is a row or none
 
 pub never-refused : {ids : List ℕ} {end : BuildEnd} → Indexed ids end → (x : ℕ) (why : Refusal)
-    → answerOf (F.Refused why) ≡ lookupCall (end .head) (end .stores .words) (end .stores .samples) x → ⊥
+    → answerOf (F.Refused why) ≡ lookupCall (end .after .head) (end .after .stores .words) (end .after .stores .samples) x → ⊥
 never-refused t x why e =
     elim (t .lookups .any-number x) [
       | inl n ↦ let z : _≡_ {A = ℕ} 0 1 = cc in absurd (omega arith)

@@ -1,11 +1,14 @@
 pub mod Built
+pub mod Outcomes
 pub mod Order
 pub mod Room
+pub mod Larger
 pub mod Demand3
+pub mod Used
 pub mod Premises
 pub mod OneAnswer
 pub mod Worked
 pub mod Numbers
 pub mod Twice
 pub mod ShutOut
-pub mod Rows
+pub mod EdgeTable

@@ -1,38 +1,36 @@
 -- The order of the ids does not matter, to a build nor to a row list. Assumes nothing.
 use mathlib.Core.Path.{_≡_, refl, sym, ap, ap₂, _∙_, fun-ext}
-use mathlib.Core.Logic.{inl, inr}
-use mathlib.Core.Bool.{Bool, true, false, not, _&&_}
+use mathlib.Core.Bool.{Bool, true, false, _&&_}
 use mathlib.Core.List.{List, [], _∷_, _++_, List·Permᴰ}
 use mathlib.Core.Option.{Option}
-use Prim.Native.Nat.{ℕ, _≤_, _<_}
+use Prim.Native.Nat.{ℕ, _≤_}
 use native.Mathlib.Omega.{arith}
-use lib.Dec.{eqb, leb, lit<}
+use lib.Dec.{eqb, leb}
 use lib.Ieee.{Float}
 use lib.ListN.{length, drop}
-use Rattle.bitvector.specs.declared.Made.{Made}
-use Rattle.bitvector.specs.declared.Made.the-variants.{Done, Refused}
-use Rattle.bounds.specs.Bounds.{maxIds, maxLevels}
-use Rattle.demands.specs.Demands.{SameRoom, SameEnd}
+use Rattle.refusal.specs.declared.Made.{Made}
+use Rattle.refusal.specs.declared.Made.the-variants.{Done, Refused}
+use Rattle.bounds.specs.Bounds.{levelLimit}
+use Rattle.demands.specs.Demands.{checksOf, roomIn, SameRoom, SameEnd}
+use Rattle.demands.proofs.Outcomes.{Apart, checks-apart}
 use Rattle.laws.specs.Bits.{wordsFor, packed}
 use Rattle.laws.specs.Counting.{one, rank, blocks, Same}
 use Rattle.laws.proofs.Blocks.{blocks-same}
 use Rattle.laws.proofs.Cases.{Tri, lt, eq, gt, tri}
 use Rattle.laws.proofs.Counts.{same-total, same-length, same-sift, same-one, length-sift, empty, perm-same}
-use Rattle.mphf.specs.Build.{BuildEnd, check, buildChecks, ended, afterChecks, buildCall}
-use Rattle.mphf.specs.Index.{Stores, ruleOf, roomOf, indexWords, indexSamples, indexSizes}
-use Rattle.mphf.specs.Lookup.{lookupCall}
-use Rattle.mphf.specs.Rows as R
-use Rattle.mphf.specs.declared.fitting.Head.{Head}
-use Rattle.mphf.proofs.Lists.{apart-known}
+use Rattle.build.specs.Build.{BuildEnd, buildChecks, ended, afterChecks, buildCall, Stores}
+use Rattle.head.specs.Index.{ruleOf, roomOf, indexWords, indexSamples, indexSizes}
+use Rattle.finding.specs.Find.{rowIn}
+use Rattle.lookup.specs.Lookup.{lookupCall}
+use Rattle.refusal.specs.Answers.{Outcome, answered, refused, check}
+use Rattle.refusal.specs.declared.Refusal.the-variants.{WrongIds}
+use Rattle.rows.specs.Rows as R
+use Rattle.head.specs.declared.Head.{Head}
+use Rattle.rows.proofs.Lists.{apart-known}
 use Rattle.ranks.specs.Ranks.{samplesOf}
-use Rattle.refusal.specs.Table.{numberOf}
-use Rattle.refusal.specs.declared.Refusal.the-variants.{GammaTooSmall, GammaTooLarge, TooManyIds, ShortWorkStore}
-use Rattle.refusal.proofs.Apart.{number-pos}
 use Rattle.rule.specs.Demand.{SameIndex}
-use Rattle.rule.specs.Rule.{Outcome, built, noRoom, idsLeft, run, base}
+use Rattle.rule.specs.Rule.{RunEnd, built, noRoom, idsLeft, run, base}
 use Rattle.rule.proofs.Order.{same-index}
-use Rattle.sizes.specs.Gamma.{aboveMin, aboveMax}
-use Rattle.sizes.specs.Sizes.{sizeFor}
 
 -- ---- a row list
 
@@ -65,9 +63,10 @@ module _ (row : ℕ → Option ℕ) (count : ℕ) {xs ys : List ℕ} (s : Same x
   unfolding R.rowsBy
   same-by rows marks = rw (← same-apart, same-length s) (go (R.apart row xs count) refl (eqb (length ys) count))
     where
-      after : Bool → List ℕ → R.Listing
+      after : Bool → List ℕ → Outcome R.RowStores
       after passed list =
-          R.check passed 12 rows (R.clearMarks count marks) (R.listing Done (list ++ drop count rows) (R.clearMarks count marks))
+          check passed WrongIds (refused (R.rowStores rows (R.clearMarks count marks)))
+          (answered 0 (R.rowStores (list ++ drop count rows) (R.clearMarks count marks)))
 
       go : (b : Bool) → R.apart row xs count ≡ b → (n : Bool) → after (n && b) (R.listed row xs count) ≡ after (n && b) (R.listed row ys count)
       go true e n = ap (after (n && true)) (same-listed e)
@@ -78,7 +77,7 @@ module _ (row : ℕ → Option ℕ) (count : ℕ) {xs ys : List ℕ} (s : Same x
 pub rows-any-order : (head : Head) (words samples rows marks : List ℕ) {xs ys : List ℕ} → Same xs ys
     → R.rowsCall head words samples xs rows marks ≡ R.rowsCall head words samples ys rows marks
 unfolding R.rowsCall
-rows-any-order head words samples rows marks s = rw (same-by (λ x. R.rowIn (lookupCall head words samples x)) (head .count) s rows marks)
+rows-any-order head words samples rows marks s = rw (same-by (λ x. rowIn (lookupCall head words samples x)) (head .count) s rows marks)
 
 -- ---- a build
 
@@ -99,7 +98,7 @@ module _ (gamma : Float) {xs ys : List ℕ} (s : Same xs ys) where
   unfolding indexSizes
   same-sizes n = ap (λ (w : ℕ → ℕ). blocks (λ i. w i ∷ []) n) (same .sizes)
 
-  same-ended : (t : Stores) (o : Outcome) → ended gamma xs t o ≡ ended gamma ys t o
+  same-ended : (t : Stores) (o : RunEnd) → ended gamma xs t o ≡ ended gamma ys t o
   same-ended t (built n) = rw (same-length s, same-words n, same-samples n, same-sizes n)
   same-ended t (noRoom i) = refl
   same-ended t (idsLeft n) = refl
@@ -112,62 +111,42 @@ module _ (gamma : Float) {xs ys : List ℕ} (s : Same xs ys) where
       go : (m : Made) → afterChecks m gamma xs t ≡ afterChecks m gamma ys t
       go (Refused r) = refl
       go Done =
-          same-ended t (run (ruleOf gamma) (roomOf (length (t .words)) (length (t .samples))) xs maxLevels)
-          ∙ ap (λ (f : ℕ → Outcome). ended gamma ys t (f maxLevels)) (same .runs (roomOf (length (t .words)) (length (t .samples))))
+          same-ended t (run (ruleOf gamma) (roomOf (length (t .words)) (length (t .samples))) xs levelLimit)
+          ∙ ap (λ (f : ℕ → RunEnd). ended gamma ys t (f levelLimit)) (same .runs (roomOf (length (t .words)) (length (t .samples))))
 
 -- ---- stores of the same lengths
-
--- the checks give no refusal but 1 to 4
-abbrev number : Made → ℕ
-number Done = 0
-number (Refused r) = numberOf r
-
-checks-low : (gamma : Float) (n collide rest : ℕ) → number (buildChecks gamma n collide rest) < 5
-unfolding buildChecks
-checks-low gamma n collide rest =
-    go (aboveMin gamma) (not (aboveMax gamma)) (leb n maxIds) (leb n rest && leb (wordsFor (sizeFor gamma n)) collide)
-  where
-    go : (a b c d : Bool) → number (check a GammaTooSmall (check b GammaTooLarge (check c TooManyIds (check d ShortWorkStore Done)))) < 5
-    go false b c d = lit< tt
-    go true false c d = lit< tt
-    go true true false d = lit< tt
-    go true true true false = lit< tt
-    go true true true true = lit< tt
 
 alike : {a b : BuildEnd} → a ≡ b → SameEnd a b
 alike e = record {
   refusal = ap (λ (x : BuildEnd). x .refusal) e;
   value = ap (λ (x : BuildEnd). x .value) e;
-  head = ap (λ (x : BuildEnd). x .head) e;
-  stores = λ c. ap (λ (x : BuildEnd). x .stores) e;
+  head = ap (λ (x : BuildEnd). x .after .head) e;
+  stores = λ c. ap (λ (x : BuildEnd). x .after .stores) e;
 }
 
 module _ (gamma : Float) (ids : List ℕ) {s t : Stores} (r : SameRoom s t) where
-  room-ended : (o : Outcome) → ended gamma ids s o ≡ ended gamma ids t o
+  room-ended : (o : RunEnd) → ended gamma ids s o ≡ ended gamma ids t o
   room-ended (built n) = rw (r .words, r .samples, r .collide, r .rest)
   room-ended (noRoom i) = rw (r .words, r .samples, r .collide, r .rest)
   room-ended (idsLeft n) = rw (r .words, r .samples, r .collide, r .rest)
 
   build-by-room : SameEnd (buildCall gamma ids s) (buildCall gamma ids t)
   unfolding buildCall
-  build-by-room =
-      rw (r .collide, r .rest)
-      (go (buildChecks gamma (length ids) (length (t .collide)) (length (t .rest))) (checks-low gamma (length ids) (length (t .collide)) (length (t .rest))))
+  build-by-room = rw (r .collide, r .rest) (go (checksOf gamma ids t) (checks-apart gamma (length ids) (length (t .collide)) (length (t .rest))))
     where
-      go : (m : Made) → number m < 5 → SameEnd (afterChecks m gamma ids s) (afterChecks m gamma ids t)
-      go Done few =
+      go : (m : Made) → Apart m → SameEnd (afterChecks m gamma ids s) (afterChecks m gamma ids t)
+      go Done apart =
           alike
-          (room-ended (run (ruleOf gamma) (roomOf (length (s .words)) (length (s .samples))) ids maxLevels)
-          ∙ ap₂ (λ (w v : ℕ). ended gamma ids t (run (ruleOf gamma) (roomOf w v) ids maxLevels)) (r .words) (r .samples))
-      go (Refused q) few = record {
+          (room-ended (run (ruleOf gamma) (roomIn s) ids levelLimit)
+          ∙ ap₂ (λ (w v : ℕ). ended gamma ids t (run (ruleOf gamma) (roomOf w v) ids levelLimit)) (r .words) (r .samples))
+      go (Refused why) apart = record {
         refusal = refl;
         value = refl;
         head = refl;
         stores = λ c.
-            elim c [
-              | inl z ↦ absurd (omega (arith, number-pos q))
-              | inr l ↦ absurd (omega arith)
-            ];
+            let k = apart why refl in
+            let z : _≡_ {A = ℕ} 0 1 = cc in
+            absurd (omega arith);
       }
 
 -- with stores of the same lengths: the same index or the same refusal

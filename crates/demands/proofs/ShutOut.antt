@@ -1,29 +1,34 @@
--- Programs that 01 wants shut out: what they leave behind does not meet the promise, at a small input. Assumes nothing.
-use mathlib.Core.Path.{_≡_, sym, ap, ap₂, _∙_}
+-- Programs that are shut out: what they leave behind does not meet the promise; builds at small inputs, and lookups in the index of any build.
+-- Assumes nothing.
+use mathlib.Core.Path.{_≡_, sym, ap, _∙_}
 use mathlib.Core.Bool.{true}
-use mathlib.Core.List.{[], _∷_}
+use mathlib.Core.List.{List, [], _∷_}
 use Prim.Native.Nat.{ℕ, _^_, _≤_, _<_}
 use native.Mathlib.Omega.{arith}
 use lib.Dec.{lit<}
+use lib.Ieee.{Float}
 use lib.ListN.{length, getD}
 use Rattle.refusal.specs.declared.Refusal.{Refusal}
 use Rattle.refusal.specs.declared.Refusal.the-variants.{NoRoomForLevel, IdsRemain}
-use Rattle.bitvector.specs.declared.Made.the-variants as M
+use Rattle.refusal.specs.declared.Made.the-variants as M
 use Rattle.laws.specs.Counting.{one, count}
 use Rattle.laws.specs.Bits.{bitAt, has}
 use Rattle.mixer.specs.Mixer.{mixed}
 use Rattle.mixer.specs.Position.{position}
-use Rattle.mphf.specs.Index.{Stores, noHead}
-use Rattle.mphf.specs.Build.{builtOf, cleared, buildCall}
-use Rattle.mphf.specs.Lookup.{answerOf, lookupCall}
-use Rattle.mphf.specs.declared.fitting.Head.{Head}
-use Rattle.mphf.specs.declared.building.Built.{Built}
-use Rattle.mphf.specs.declared.finding.Found.{Found}
-use Rattle.mphf.specs.declared.finding.Found.the-variants as F
-use Rattle.mphf.specs.declared.finding.Place.{Place}
-use Rattle.demands.specs.Inputs.{two, three, lentThree, threeBuilt, threeLeft, pair, lentPair, pairBuilt, pairLeft, firstPlace, secondPlace, refusedWith}
+use Rattle.build.specs.Build.{Stores, builtOf, cleared, buildCall}
+use Rattle.head.specs.Index.{noHead}
+use Rattle.finding.specs.Find.{found, answerOf}
+use Rattle.lookup.specs.Lookup.{lookupCall}
+use Rattle.head.specs.declared.Head.{Head}
+use Rattle.build.specs.declared.Built.{Built}
+use Rattle.finding.specs.declared.Found.{Found}
+use Rattle.finding.specs.declared.Found.the-variants as F
+use Rattle.finding.specs.declared.Place.{Place}
+use Rattle.demands.specs.Inputs.{two, three, lentThree, threeBuilt, threeLeft, refusedWith}
+use Rattle.rule.specs.Rule as R
+use Rattle.demands.proofs.Demand3.{returned}
 use Rattle.demands.proofs.OneAnswer.{build-once, lookup-once}
-use Rattle.demands.proofs.Worked.{three-built, pair-built, first-found, second-found}
+use Rattle.demands.proofs.Worked.{three-built}
 use Rattle.demands.proofs.Twice.{twice-left, twice-full}
 
 -- ---- builds, at three ids of which two share their position in level 0
@@ -82,20 +87,24 @@ module _ (x : ℕ) (s : Stores) (in-collide : 4 ≤ length (s .collide)) (in-res
         let d = left-only h .0 in
         cc
 
--- ---- lookups, in the index of two ids
+-- ---- lookups, in the index of any accepted build
 
-module _ (a : Built) (t : Stores) (built : builtOf (a .outcome) (a .head) t ≡ buildCall two pair lentPair) where
-  module _ (f : ℕ → Found) (meets : (x : ℕ) → answerOf (f x) ≡ lookupCall (a .head) (t .words) (t .samples) x) where
-    -- their rows are 0 and 1
-    pub pair-rows : (f 1 ≡ F.Row firstPlace) × (f 2 ≡ F.Row secondPlace)
-    pair-rows = (only 1 firstPlace first-found, only 2 secondPlace second-found)
-      where
-        only : (x : ℕ) (p : Place) → answerOf (F.Row p) ≡ lookupCall (pairBuilt .head) (pairLeft .words) (pairLeft .samples) x → f x ≡ F.Row p
-        only x p e =
-            let index = build-once two pair lentPair pairBuilt a pairLeft t pair-built built in
-            let same = ap₂ (λ (b : Built) (s : Stores). lookupCall (b .head) (s .words) (s .samples) x) (index .0) (index .1) in
-            lookup-once (a .head) (t .words) (t .samples) x (f x) (F.Row p) (meets x) (e ∙ same)
+module _ (gamma : Float) (ids : List ℕ) (s : Stores) (head : Head) (t : Stores) (built : builtOf M.Done head t ≡ buildCall gamma ids s) where
+  module _ (f : ℕ → Found) (meets : (x : ℕ) → answerOf (f x) ≡ lookupCall head (t .words) (t .samples) x) where
+    module _ (x y : ℕ) (x-id : 0 < count x ids) (y-id : 0 < count y ids) (differ : x ≡ y → ⊥) where
+      -- one that says one row or none, whatever row it is: two different ids have different rows
+      pub not-one-row : (k : ℕ) → ((z : ℕ) (p : Place) → f z ≡ F.Row p → p .row ≡ k) → ⊥
+      not-one-row k says =
+          let l = returned gamma ids s head t built .lookups in
+          let u = l .id-row x x-id in
+          let v = l .id-row y y-id in
+          differ (l .one-id x y (u .0) (v .0) x-id y-id (u .1) (v .1) (told x (u .0) (u .1) ∙ sym (told y (v .0) (v .1))))
+        where
+          told : (z : ℕ) (u : R.RowPlace) → lookupCall head (t .words) (t .samples) z ≡ found u → u .row ≡ k
+          told z u e =
+              let p : Place = record { row = u .row; level = u .level; position = u .position } in
+              says z p (lookup-once head (t .words) (t .samples) z (f z) (F.Row p) (meets z) (sym e))
 
-    -- a lookup that always says row 0 or none: one that says no other row
-    pub not-all-first : ((x : ℕ) (p : Place) → f x ≡ F.Row p → p .row ≡ 0) → ⊥
-    not-all-first none-else = omega (arith, none-else 2 secondPlace (pair-rows .1))
+      -- one that always says row 0 or none
+      pub not-all-first : ((z : ℕ) (p : Place) → f z ≡ F.Row p → p .row ≡ 0) → ⊥
+      not-all-first = not-one-row 0

@@ -9,23 +9,24 @@ use lib.Dec.{lit<, lit≤}
 use lib.Ieee.{ofBits, lt}
 use lib.ListN.{length}
 use borrow.Author.Tests.{eq-eqb}
-use Rattle.bounds.specs.Bounds.{maxLevels}
-use Rattle.bitvector.specs.declared.Made.the-variants.{Done}
-use Rattle.rule.specs.Rule.{Rule, left, span, start, Room, fits, idsLeft}
+use Rattle.bounds.specs.Bounds.{levelLimit}
+use Rattle.refusal.specs.declared.Made.the-variants.{Done}
+use Rattle.refusal.specs.declared.Refusal.the-variants.{NoRoomForLevel, IdsRemain}
+use Rattle.rule.specs.Rule.{Rule, remaining, span, start, Room, fits, idsLeft}
 use Rattle.rule.specs.Demand.{Reaches, out-of-room, at-limit}
 use Rattle.rule.proofs.Run.{room-enough, words-short, ends-only}
 use Rattle.sizes.specs.Sizes.{sizeFor, wholeOf, rounded}
-use Rattle.mphf.specs.Index.{Stores, ruleOf, roomOf}
-use Rattle.mphf.specs.Build.{buildChecks, refusedRun, buildCall}
-use Rattle.mphf.proofs.Builds.{checked}
+use Rattle.build.specs.Build.{Stores, buildChecks, refusedRun, buildCall}
+use Rattle.head.specs.Index.{ruleOf, roomOf}
+use Rattle.build.proofs.Builds.{checked}
 use Rattle.demands.specs.Inputs.{two}
 
 -- ---- by any rule
 
 module _ (rule : Rule) (x : ℕ) where
   -- both stay
-  stays : (i : ℕ) → left rule (x ∷ x ∷ []) i ≡ x ∷ x ∷ []
-  unfolding left
+  stays : (i : ℕ) → remaining rule (x ∷ x ∷ []) i ≡ x ∷ x ∷ []
+  unfolding remaining
   stays zero = refl
   stays (suc i) =
       let p = rule .pos i (rule .size 2) x in
@@ -74,14 +75,14 @@ module _ (x : ℕ) (s : Stores) where
     passes = checked two 2 (length (s .collide)) (length (s .rest)) refl refl (lit≤ tt) in-rest in-collide
 
     -- with 400 words and 100 samples two ids remain after level 99: refusal 6 with 2
-    pub twice-left : length (s .words) ≡ 400 → length (s .samples) ≡ 100 → buildCall two (x ∷ x ∷ []) s ≡ refusedRun 6 2 s
+    pub twice-left : length (s .words) ≡ 400 → length (s .samples) ≡ 100 → buildCall two (x ∷ x ∷ []) s ≡ refusedRun (IdsRemain 2) s
     unfolding buildCall
     twice-left h k =
-        let two-left = ap idsLeft (sym (ap length (stays rule x maxLevels))) in
-        rw (← passes, ends-only rule room ids maxLevels (at-limit (reached maxLevels (omega arith) (omega arith)) two-left))
+        let two-left = ap idsLeft (sym (ap length (stays rule x levelLimit))) in
+        rw (← passes, ends-only rule room ids levelLimit (at-limit (reached levelLimit (omega arith) (omega arith)) two-left))
 
     -- with 399 words there is no room for level 99: refusal 5 with 99
-    pub twice-full : length (s .words) ≡ 399 → length (s .samples) ≡ 100 → buildCall two (x ∷ x ∷ []) s ≡ refusedRun 5 99 s
+    pub twice-full : length (s .words) ≡ 399 → length (s .samples) ≡ 100 → buildCall two (x ∷ x ∷ []) s ≡ refusedRun (NoRoomForLevel 99) s
     unfolding buildCall
     twice-full h k =
-        rw (← passes, ends-only rule room ids maxLevels (out-of-room 99 (lit< tt) (reached 99 (omega arith) (omega arith)) (full 100 (omega arith)) refl))
+        rw (← passes, ends-only rule room ids levelLimit (out-of-room 99 (lit< tt) (reached 99 (omega arith) (omega arith)) (full 100 (omega arith)) refl))

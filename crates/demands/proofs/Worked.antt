@@ -5,21 +5,22 @@ use Rattle.laws.specs.Bits.{bitAt, has, packed}
 use Rattle.mixer.specs.Mixer.{mixed}
 use Rattle.mixer.specs.Position.{position}
 use Rattle.ranks.specs.Ranks.{firstSamples, onesFrom}
-use Rattle.rule.specs.Rule.{left, runFrom, first}
+use Rattle.rule.specs.Rule.{remaining, runFrom, first}
 use Rattle.sizes.specs.Sizes.{sizeFor, wholeOf, rounded}
-use Rattle.mphf.specs.Index.{indexWords, indexSamples, indexSizes}
-use Rattle.mphf.specs.Build.{builtOf, buildChecks, buildCall}
-use Rattle.mphf.specs.Layout.{fit}
-use Rattle.mphf.specs.Lookup.{answerOf, rowAnswer, findIn, lookupCall}
-use Rattle.mphf.specs.declared.finding.Found.the-variants.{Row}
+use Rattle.head.specs.Index.{indexWords, indexSamples, indexSizes}
+use Rattle.build.specs.Build.{builtOf, buildChecks, buildCall}
+use Rattle.head.specs.Layout.{fit}
+use Rattle.finding.specs.Find.{answerOf, rowAnswer, findIn}
+use Rattle.lookup.specs.Lookup.{lookupCall}
+use Rattle.finding.specs.declared.Found.the-variants.{Row}
 use Rattle.demands.specs.Inputs.{two, three, lentThree, threeBuilt, threeLeft, pair, lentPair, pairBuilt, pairLeft, firstPlace, secondPlace}
 
 pub three-built : builtOf (threeBuilt .outcome) (threeBuilt .head) threeLeft ≡ buildCall two three lentThree
-unfolding buildCall buildChecks lt ofBits sizeFor wholeOf rounded runFrom left position mixed indexWords indexSamples indexSizes packed firstSamples has bitAt
+unfolding buildCall buildChecks lt ofBits sizeFor wholeOf rounded runFrom remaining position mixed indexWords indexSamples indexSizes packed firstSamples has bitAt
 three-built = refl
 
 pub pair-built : builtOf (pairBuilt .outcome) (pairBuilt .head) pairLeft ≡ buildCall two pair lentPair
-unfolding buildCall buildChecks lt ofBits sizeFor wholeOf rounded runFrom left position mixed indexWords indexSamples indexSizes packed firstSamples has bitAt
+unfolding buildCall buildChecks lt ofBits sizeFor wholeOf rounded runFrom remaining position mixed indexWords indexSamples indexSizes packed firstSamples has bitAt
 pair-built = refl
 
 pub first-found : answerOf (Row firstPlace) ≡ lookupCall (pairBuilt .head) (pairLeft .words) (pairLeft .samples) 1

@@ -2,12 +2,14 @@
 use mathlib.Core.List.{List, [], _∷_}
 use Prim.Native.Nat.{ℕ, _^_}
 use lib.Ieee.{Float, binary64, ofBits}
-use Rattle.bounds.specs.Bounds.{maxLevels}
-use Rattle.bitvector.specs.declared.Made.the-variants.{Done, Refused}
+use Rattle.bounds.specs.Bounds.{headSizes}
+use Rattle.refusal.specs.declared.Made.the-variants.{Done, Refused}
 use Rattle.refusal.specs.declared.Refusal.{Refusal}
-use Rattle.mphf.specs.Index.{Stores, stores, zeros, filled, noHead}
-use Rattle.mphf.specs.declared.building.Built.{Built}
-use Rattle.mphf.specs.declared.finding.Place.{Place}
+use Rattle.build.specs.Build.{Stores, stores}
+use Rattle.laws.specs.Stores.{zeros, filled}
+use Rattle.head.specs.Index.{noHead}
+use Rattle.build.specs.declared.Built.{Built}
+use Rattle.finding.specs.declared.Place.{Place}
 
 -- the f64s 1.5 and 2.0
 abbrev pub oneAndHalf : Float
@@ -28,7 +30,7 @@ lentThree = stores (zeros 8) (zeros 2) (zeros 4) (zeros 3)
 
 -- the answer, and the stores after it
 abbrev pub threeBuilt : Built
-threeBuilt = record { outcome = Done; head = record { count = 3; levels = 2; sizes = filled (255 ∷ 255 ∷ []) maxLevels } }
+threeBuilt = record { outcome = Done; head = record { count = 3; levels = 2; sizes = filled (255 ∷ 255 ∷ []) headSizes } }
 
 abbrev pub threeLeft : Stores
 threeLeft = stores (0 ∷ 0 ∷ 0 ∷ 2 ^ 5 ∷ 2 ^ 58 ∷ 0 ∷ 2 ^ 63 ∷ 0 ∷ []) (0 ∷ 1 ∷ []) (zeros 4) (zeros 3)
@@ -43,7 +45,7 @@ abbrev pub lentPair : Stores
 lentPair = stores (zeros 4) (zeros 1) (zeros 4) (zeros 2)
 
 abbrev pub pairBuilt : Built
-pairBuilt = record { outcome = Done; head = record { count = 2; levels = 1; sizes = filled (255 ∷ []) maxLevels } }
+pairBuilt = record { outcome = Done; head = record { count = 2; levels = 1; sizes = filled (255 ∷ []) headSizes } }
 
 abbrev pub pairLeft : Stores
 pairLeft = stores (0 ∷ 0 ∷ 2 ^ 11 ∷ 2 ^ 5 ∷ []) (0 ∷ []) (zeros 4) (zeros 2)

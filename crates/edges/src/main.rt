@@ -1,25 +1,14 @@
 // The lines of 01's "Both sides of each line" that are run: each is written with what the proved functions answer, and the file stdout has what 01 says.
-mod builds;
-mod indexes;
-mod levels;
-mod rows;
-mod sets;
-mod stores;
+mod lists;
 
 fn main() {
-    levels::gammas();
-    levels::sizes();
-    sets::bits();
-    sets::ones();
-    sets::capacities();
-    sets::strays();
-    sets::members();
-    rows::sampled();
-    builds::accepted();
-    builds::refused();
-    indexes::lookups();
-    indexes::in_short_stores();
-    indexes::in_nothing();
-    indexes::heads();
-    indexes::lists();
+    level_edges::gammas();
+    level_edges::sizes();
+    set_edges::run();
+    level_edges::sampled();
+    build_edges::accepted();
+    build_edges::refused();
+    lookup_edges::lookups();
+    damage_edges::lookups();
+    lists::lists();
 }

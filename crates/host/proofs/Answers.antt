@@ -1,35 +1,24 @@
--- The number of an answer, whatever the store beside it. Each law holds by cases.
+-- The number of an answer, whatever the stores beside it. Assumes nothing.
 use mathlib.Core.Path.{_≡_, refl, sym, ap, ap₂, _∙_}
 use Prim.Native.Nat.{ℕ}
-use mathlib.Core.List.{List}
+use borrow.Author.Tests.{ne-eqb}
 use Rattle.refusal.specs.Table.{numberOf}
+use Rattle.refusal.specs.Answers.{Outcome, made, said, counted}
 use Rattle.refusal.specs.declared.Refusal.{Refusal}
-use Rattle.refusal.specs.declared.Refusal.the-variants.{GammaTooSmall, GammaTooLarge, TooManyIds, ShortWorkStore, NoRoomForLevel, IdsRemain}
-use Rattle.refusal.specs.declared.Refusal.the-variants.{UnfitHead, UnfitRow, BitOutside, UnfitSet, ShortOutput, WrongIds}
-use Rattle.bitvector.specs.declared.Made.{Made}
-use Rattle.bitvector.specs.declared.Made.the-variants as M
-use Rattle.bitvector.specs.declared.Said.{Said}
-use Rattle.bitvector.specs.declared.Said.the-variants as S
-use Rattle.bitvector.specs.declared.Counted.{Counted}
-use Rattle.bitvector.specs.declared.Counted.the-variants as C
-use Rattle.bitvector.specs.Calls.{Outcome, made, said, counted}
+use Rattle.refusal.specs.declared.Made.{Made}
+use Rattle.refusal.specs.declared.Made.the-variants as M
+use Rattle.refusal.specs.declared.Said.{Said}
+use Rattle.refusal.specs.declared.Said.the-variants as S
+use Rattle.refusal.specs.declared.Counted.{Counted}
+use Rattle.refusal.specs.declared.Counted.the-variants as C
+use Rattle.refusal.proofs.Apart.{not-none}
+use Rattle.refusal.proofs.Once.{made-after, said-after, counted-after}
 use Rattle.host.specs.Numbers.{refusedNumber, numberFor, ofOutcome, ofMade, ofSaid, ofCounted}
-use Rattle.host.specs.Flat.{seen, setSeen}
+use Rattle.host.specs.Flat.{Seen, seen, seenOf}
 
 -- no refusal has number 0
 pub refused-number : (r : Refusal) (value : ℕ) → numberFor (numberOf r) value ≡ refusedNumber (numberOf r)
-refused-number GammaTooSmall value = refl
-refused-number GammaTooLarge value = refl
-refused-number TooManyIds value = refl
-refused-number ShortWorkStore value = refl
-refused-number (NoRoomForLevel level) value = refl
-refused-number (IdsRemain ids) value = refl
-refused-number UnfitHead value = refl
-refused-number UnfitRow value = refl
-refused-number BitOutside value = refl
-refused-number UnfitSet value = refl
-refused-number ShortOutput value = refl
-refused-number WrongIds value = refl
+refused-number r value = rw (ne-eqb (numberOf r) 0 (not-none r))
 
 -- the number of an answer that is refused
 pub made-refused : {answer : Made} {r : Refusal} → answer ≡ M.Refused r → refusedNumber (numberOf r) ≡ ofMade answer
@@ -41,43 +30,35 @@ said-refused {r = r} e = sym (ap ofSaid e ∙ refused-number r _)
 pub counted-refused : {answer : Counted} {r : Refusal} → answer ≡ C.Refused r → refusedNumber (numberOf r) ≡ ofCounted answer
 counted-refused {r = r} e = sym (ap ofCounted e ∙ refused-number r _)
 
--- the number of an outcome does not depend on the store
-made-number : (answer : Made) (ws : List ℕ) → ofMade answer ≡ ofOutcome (made answer ws)
-made-number M.Done ws = refl
-made-number (M.Refused r) ws = refl
+module _ {After : Type 0} where
+  -- the number of an outcome does not depend on the stores
+  pub made-number : (answer : Made) (s : After) → ofMade answer ≡ ofOutcome (made answer s)
+  made-number M.Done s = refl
+  made-number (M.Refused r) s = refl
 
-said-number : (answer : Said) (ws : List ℕ) → ofSaid answer ≡ ofOutcome (said answer ws)
-said-number S.Yes ws = refl
-said-number S.No ws = refl
-said-number (S.Refused r) ws = refl
+  said-number : (answer : Said) (s : After) → ofSaid answer ≡ ofOutcome (said answer s)
+  said-number S.Yes s = refl
+  said-number S.No s = refl
+  said-number (S.Refused r) s = refl
 
-counted-number : (answer : Counted) (ws : List ℕ) → ofCounted answer ≡ ofOutcome (counted answer ws)
-counted-number (C.Count n) ws = refl
-counted-number (C.Refused r) ws = refl
+  counted-number : (answer : Counted) (s : After) → ofCounted answer ≡ ofOutcome (counted answer s)
+  counted-number (C.Count n) s = refl
+  counted-number (C.Refused r) s = refl
 
--- and the outcome's store is the store beside the answer
-made-store : (answer : Made) (ws : List ℕ) → made answer ws .store ≡ ws
-made-store M.Done ws = refl
-made-store (M.Refused r) ws = refl
+  -- the number and the stores of an outcome are what a host sees of it
+  seen-as : {n : ℕ} {s : After} (o : Outcome After) → n ≡ ofOutcome o → o .after ≡ s → seen n s ≡ seenOf o
+  seen-as o e l = ap₂ seen e (sym l)
 
-said-store : (answer : Said) (ws : List ℕ) → said answer ws .store ≡ ws
-said-store S.Yes ws = refl
-said-store S.No ws = refl
-said-store (S.Refused r) ws = refl
+  pub made-seen : {n : ℕ} {s : After} {o : Outcome After} (answer : Made) → n ≡ ofMade answer → made answer s ≡ o → seen n s ≡ seenOf o
+  made-seen {s = s} answer e h = seen-as (made answer s) (e ∙ made-number answer s) (made-after _ answer s) ∙ ap seenOf h
 
-counted-store : (answer : Counted) (ws : List ℕ) → counted answer ws .store ≡ ws
-counted-store (C.Count n) ws = refl
-counted-store (C.Refused r) ws = refl
+  pub said-seen : {n : ℕ} {s : After} {o : Outcome After} (answer : Said) → n ≡ ofSaid answer → said answer s ≡ o → seen n s ≡ seenOf o
+  said-seen {s = s} answer e h = seen-as (said answer s) (e ∙ said-number answer s) (said-after _ answer s) ∙ ap seenOf h
 
--- the number and the store of an outcome are what a host sees of it
-seen-as : {n : ℕ} {ws : List ℕ} (o : Outcome) → n ≡ ofOutcome o → o .store ≡ ws → seen n ws ≡ setSeen o
-seen-as o e s = ap₂ seen e (sym s)
+  pub counted-seen : {n : ℕ} {s : After} {o : Outcome After} (answer : Counted) → n ≡ ofCounted answer → counted answer s ≡ o → seen n s ≡ seenOf o
+  counted-seen {s = s} answer e h = seen-as (counted answer s) (e ∙ counted-number answer s) (counted-after _ answer s) ∙ ap seenOf h
 
-pub made-seen : {n : ℕ} {ws : List ℕ} {o : Outcome} (answer : Made) → n ≡ ofMade answer → made answer ws ≡ o → seen n ws ≡ setSeen o
-made-seen {ws = ws} answer e h = seen-as (made answer ws) (e ∙ made-number answer ws) (made-store answer ws) ∙ ap setSeen h
-
-pub said-seen : {n : ℕ} {ws : List ℕ} {o : Outcome} (answer : Said) → n ≡ ofSaid answer → said answer ws ≡ o → seen n ws ≡ setSeen o
-said-seen {ws = ws} answer e h = seen-as (said answer ws) (e ∙ said-number answer ws) (said-store answer ws) ∙ ap setSeen h
-
-pub counted-seen : {n : ℕ} {ws : List ℕ} {o : Outcome} (answer : Counted) → n ≡ ofCounted answer → counted answer ws ≡ o → seen n ws ≡ setSeen o
-counted-seen {ws = ws} answer e h = seen-as (counted answer ws) (e ∙ counted-number answer ws) (counted-store answer ws) ∙ ap setSeen h
+-- No room for a second answer: what a host sees, the number and every word of every store, is the same in any two calls that meet one promise. The promise
+-- of each of the thirteen calls is `seen number stores ≡ x`, with an x of the values at entry.
+pub seen-once : {After : Type 0} (x : Seen After) (m n : ℕ) (s t : After) → seen m s ≡ x → seen n t ≡ x → (m ≡ n) × (s ≡ t)
+seen-once {After} x m n s t e f = (ap (λ (y : Seen After). y .number) (e ∙ sym f), ap (λ (y : Seen After). y .after) (e ∙ sym f))

@@ -1,4 +1,3 @@
 pub mod Answers
-pub mod Heads
 pub mod Flats
 pub mod Readings

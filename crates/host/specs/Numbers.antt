@@ -1,20 +1,19 @@
 -- The one number that an answer is to a host: a value, 2^64 - 1 for none, 2^64 - 1 - r for refusal r.
 use Prim.Native.Nat.{ℕ, _-_}
 use mathlib.Core.Bool.{cond}
-use mathlib.Core.List.{[]}
 use lib.Dec.{eqb, leb}
 use Rattle.bounds.specs.Bounds.{maxBits}
 use Rattle.refusal.specs.Table.{numberOf}
-use Rattle.bitvector.specs.declared.Made.{Made}
-use Rattle.bitvector.specs.declared.Made.the-variants as M
-use Rattle.bitvector.specs.declared.Said.{Said}
-use Rattle.bitvector.specs.declared.Said.the-variants as S
-use Rattle.bitvector.specs.declared.Counted.{Counted}
-use Rattle.bitvector.specs.declared.Counted.the-variants as C
-use Rattle.bitvector.specs.Calls.{Outcome, made, said, counted}
-use Rattle.mphf.specs.declared.finding.Found.{Found}
-use Rattle.mphf.specs.declared.finding.Found.the-variants as F
-use Rattle.mphf.specs.Lookup.{Answer, found, nothing, refused}
+use Rattle.refusal.specs.declared.Made.{Made}
+use Rattle.refusal.specs.declared.Made.the-variants as M
+use Rattle.refusal.specs.declared.Said.{Said}
+use Rattle.refusal.specs.declared.Said.the-variants as S
+use Rattle.refusal.specs.declared.Counted.{Counted}
+use Rattle.refusal.specs.declared.Counted.the-variants as C
+use Rattle.refusal.specs.Answers.{Outcome, untouched, made, said, counted}
+use Rattle.finding.specs.declared.Found.{Found}
+use Rattle.finding.specs.declared.Found.the-variants as F
+use Rattle.finding.specs.Find.{Answer, found, nothing, refused}
 
 abbrev pub noneNumber : ℕ
 noneNumber = 18446744073709551615
@@ -22,11 +21,11 @@ noneNumber = 18446744073709551615
 abbrev pub refusedNumber : ℕ → ℕ
 refusedNumber r = noneNumber - r
 
--- by 01's refusal number, 0 for none, and the value where there is none
+-- by the refusal's number, 0 for none, and the value where there is none
 abbrev pub numberFor : ℕ → ℕ → ℕ
 numberFor r value = cond (eqb r 0) value (refusedNumber r)
 
-abbrev pub ofOutcome : Outcome → ℕ
+abbrev pub ofOutcome : {Stores : Type 0} → Outcome Stores → ℕ
 ofOutcome o = numberFor (o .refusal) (o .value)
 
 -- the row of a lookup, none, or the refusal
@@ -37,27 +36,27 @@ ofAnswer (refused r value) = refusedNumber r
 
 -- the value that a refusal carries, else 0
 abbrev pub valueIn : Made → ℕ
-valueIn answer = made answer [] .value
+valueIn answer = made answer untouched .value
 
 -- the numbers of the code's enums
 abbrev pub ofMade : Made → ℕ
-ofMade answer = ofOutcome (made answer [])
+ofMade answer = ofOutcome (made answer untouched)
 
 abbrev pub ofSaid : Said → ℕ
-ofSaid answer = ofOutcome (said answer [])
+ofSaid answer = ofOutcome (said answer untouched)
 
 abbrev pub ofCounted : Counted → ℕ
-ofCounted answer = ofOutcome (counted answer [])
+ofCounted answer = ofOutcome (counted answer untouched)
 
 -- ---- how a host reads a number: up to the bit bound it is a value. proofs/Readings.antt shows that no call's answer is read as another.
 
 pub data Reading : Type 0 where
   value : ℕ → Reading
-  none : Reading
+  noRow : Reading
   refusal : ℕ → Reading
 
 unfoldable pub reading : ℕ → Reading
-reading n = cond (leb n maxBits) (value n) (cond (eqb n noneNumber) none (refusal (noneNumber - n)))
+reading n = cond (leb n maxBits) (value n) (cond (eqb n noneNumber) noRow (refusal (noneNumber - n)))
 
 -- what has to be read of each answer
 abbrev pub toldMade : Made → Reading
@@ -75,5 +74,5 @@ toldCounted (C.Refused r) = refusal (numberOf r)
 
 abbrev pub toldFound : Found → Reading
 toldFound (F.Row p) = value (p .row)
-toldFound F.None = none
+toldFound F.None = noRow
 toldFound (F.Refused r) = refusal (numberOf r)

@@ -1,13 +1,13 @@
 // Answers as one number.
 ghost use mathlib.Core.Path.{_≡_};
 ghost use Rattle.refusal.specs.Table.{numberOf};
-ghost use Rattle.mphf.specs.Lookup.{answerOf};
+ghost use Rattle.finding.specs.Find.{answerOf};
 ghost use Rattle.host.specs.Numbers.{refusedNumber, ofMade, ofSaid, ofCounted, ofAnswer, valueIn};
-use bitvector::Counted;
-use bitvector::Made;
-use bitvector::Said;
-use mphf::Found;
+use finding::Found;
+use refusal::Counted;
+use refusal::Made;
 use refusal::Refusal;
+use refusal::Said;
 
 pub fn made(answer: Made) -> u64
     ensures { λ n. ⌜ n ≡ ofMade answer ⌝ }

@@ -1,12 +1,24 @@
-// The calls on an index: those of `mphf`, with the head as numbers and each answer as one number.
+// The calls on an index, with the head as numbers and each answer as one number.
 ghost use mathlib.Core.Path.{_≡_};
-ghost use Rattle.mphf.specs.Index.{stores};
-ghost use Rattle.host.specs.Flat.{seen, buildSeen, rowsSeen, flatBuild, flatLookup, flatRows};
+ghost use Prim.Native.Nat.{_≤_};
+ghost use mathlib.Core.List.{_∷_};
+ghost use lib.ListN.{length};
+ghost use Rattle.bounds.specs.Bounds.{headSizes};
+ghost use Rattle.laws.specs.Stores.{fronted};
+ghost use Rattle.head.specs.Numbers.{numbersOf};
+ghost use Rattle.build.specs.Build.{stores};
+ghost use Rattle.rows.specs.Rows.{rowStores};
+ghost use Rattle.host.specs.Flat.{seen, flatBuilt, outPlaces, flatBuild, flatLookup, flatRows};
 use crate::answer;
 use crate::answer::refused;
-use crate::head;
-use mphf::Found;
+use bounds::HEAD_SIZES;
+use finding::Found;
+use head::numbers;
+use head::numbers::NUMBERS;
 use refusal::Refusal;
+
+// How many places the `out` of a build needs: one for a value, and the head's.
+const OUT: usize = 1 + NUMBERS;
 
 // Builds an index of the ids: 0, or the refusal. `out` gets the value that refusal 5 or 6 carries, else 0, and the head.
 #[no_mangle]
@@ -19,18 +31,28 @@ pub extern "C" fn shawltide_build(
     rest: &mut [u64],
     out: &mut [u64],
 ) -> u64
-    ensures { λ r. ⌜ buildSeen r (stores (now (words .exit)) (now (samples .exit)) (now (collide .exit)) (now (rest .exit))) (now (out .exit))
+    ensures { λ r. ⌜ seen r (flatBuilt (stores (now (words .exit)) (now (samples .exit)) (now (collide .exit)) (now (rest .exit))) (now (out .exit)))
         ≡ flatBuild gamma (now (ids .entry)) (stores (now (words .entry)) (now (samples .entry)) (now (collide .entry)) (now (rest .entry))) (now (out .entry)) ⌝ }
 {
-    if out.len() < head::OUT {
+    if out.len() < OUT {
         return refused(Refusal::ShortOutput);
     }
-    let built = mphf::build(gamma, ids, words, samples, collide, rest);
+    let built = build::build(gamma, ids, words, samples, collide, rest);
     let outcome = built.outcome;
     let head = built.head;
     let sizes = head.sizes;
-    head::write(answer::value(outcome), head.count, head.levels, &sizes, out);
+    write_out(answer::value(outcome), head.count, head.levels, &sizes, out);
     answer::made(outcome)
+}
+
+// The value and the head's numbers, at the front of `out`.
+fn write_out(value: u64, count: u64, levels: u64, sizes: &[u64; HEAD_SIZES], out: &mut [u64])
+    requires { ⌜ (length (now sizes) ≡ headSizes) × (outPlaces ≤ length (now out)) ⌝ }
+    ensures { λ r. ⌜ now (out .exit)
+        ≡ fronted (value ∷ numbersOf (record { count = count; levels = levels; sizes = now (sizes .entry) })) (now (out .entry)) ⌝ }
+{
+    numbers::write(count, levels, sizes, &mut out[1..]);
+    out[0] = value;
 }
 
 // The id's row, none, or the refusal. `place` gets the level and the position of a row.
@@ -48,10 +70,10 @@ pub extern "C" fn shawltide_lookup(
     if place.len() < 2 {
         return refused(Refusal::ShortOutput);
     }
-    if head.len() != head::NUMBERS {
+    if head.len() != NUMBERS {
         return refused(Refusal::UnfitHead);
     }
-    let found = mphf::lookup(head::read(head), words, samples, id);
+    let found = lookup::lookup(numbers::read(head), words, samples, id);
     match found {
         Found::Row(at) => {
             place[0] = at.level;
@@ -73,12 +95,12 @@ pub extern "C" fn shawltide_rows(
     rows: &mut [u64],
     marks: &mut [u64],
 ) -> u64
-    ensures { λ r. ⌜ rowsSeen r (now (rows .exit)) (now (marks .exit))
+    ensures { λ r. ⌜ seen r (rowStores (now (rows .exit)) (now (marks .exit)))
         ≡ flatRows (now (head .entry)) (now (words .entry)) (now (samples .entry)) (now (ids .entry)) (now (rows .entry)) (now (marks .entry)) ⌝ }
 {
-    if head.len() != head::NUMBERS {
+    if head.len() != NUMBERS {
         return refused(Refusal::UnfitHead);
     }
-    let answer = mphf::rows(head::read(head), words, samples, ids, rows, marks);
+    let answer = rows::rows(numbers::read(head), words, samples, ids, rows, marks);
     answer::made(answer)
 }

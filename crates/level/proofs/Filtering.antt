@@ -15,7 +15,8 @@ use Rattle.laws.specs.Counting.{hits, sift}
 use Rattle.laws.specs.Bits.{has, wordsFor, withoutBit}
 use Rattle.laws.proofs.Counts.{length-sift, tally-not, sift-take}
 use Rattle.laws.proofs.Words.{without-put}
-use Rattle.level.specs.Level.{goesOn, filterOne, filterAll, fronted, OneFiltered, Filtered, met}
+use Rattle.level.specs.Level.{goesOn, filterOne, filterAll, OneFiltered, Filtered, met}
+use Rattle.laws.specs.Stores.{fronted}
 use Rattle.level.proofs.Folds.{fold-next, fold-keeps}
 use Rattle.level.proofs.Few.{any-more}
 use Rattle.level.proofs.Kept.{Kept, kept-none, kept-more, kept-put, put-here, put-other}

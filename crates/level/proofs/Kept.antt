@@ -12,7 +12,7 @@ use lib.Seq.{getD-take}
 use Rattle.laws.specs.Bits.{digit, has, Words, wordsFor, packed}
 use Rattle.laws.proofs.Words.{has-clear, Put, put-length, put-drop, put-words, put-has}
 use Rattle.laws.proofs.Packing.{packed-store}
-use Rattle.level.specs.Level.{Clear}
+use Rattle.level.specs.Level.{ClearWords}
 
 -- there are as many words, those past the needed ones are as they were, and all are still words
 pub record Kept (size : ℕ) (ws us : List ℕ) : Type 0 where
@@ -48,7 +48,7 @@ pub put-other : {ws us : List ℕ} {b : ℕ} {t : Bool} → Put ws b t us → b 
 put-other {ws} {us} {b} p h j n = put-has p h j ∙ rw (ne-eqb j b n)
 
 -- words that are 0 have no bit
-pub clear-has : (n : ℕ) (ws : List ℕ) → Clear n ws → (b : ℕ) → b < 64 * n → has ws b ≡ false
+pub clear-has : (n : ℕ) (ws : List ℕ) → ClearWords n ws → (b : ℕ) → b < 64 * n → has ws b ≡ false
 clear-has n ws z b h =
     let e : getD ws (b / 64) 0 ≡ 0 =
     sym (getD-take n ws (b / 64) 0 (omega arith)) ∙ ap (λ (l : List ℕ). getD l (b / 64) 0) z ∙ getD-replicate n (b / 64) 0 0 (omega arith) in

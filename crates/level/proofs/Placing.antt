@@ -10,7 +10,7 @@ use Rattle.laws.specs.Bits.{has, wordsFor, packed}
 use Rattle.laws.proofs.Cases.{one-eq}
 use Rattle.laws.proofs.Counts.{count-le-hits}
 use Rattle.rule.specs.Rule.{single, rest}
-use Rattle.level.specs.Level.{Stores, markAll, goesOn, filterAll, Filtered, Placed}
+use Rattle.level.specs.Level.{MarkStores, markAll, goesOn, filterAll, Filtered, AfterLevel}
 use Rattle.level.proofs.Few.{one-not-two, two-not-one}
 use Rattle.level.proofs.Kept.{kept-more, holds}
 use Rattle.level.proofs.Marking.{Fresh, still-room, mark-keeps, marked-bits, marked-collide}
@@ -22,7 +22,7 @@ sift-same f h [] e = refl
 sift-same f h (x ∷ xs) e =
     rw (e x (omega (arith, one-eq x x refl)), sift-same f h xs (λ y m. e y (omega arith)))
 
-module _ (g : ℕ → ℕ) (size : ℕ) (within : (id : ℕ) → g id < size) (s : Stores) (fresh : Fresh size s) where
+module _ (g : ℕ → ℕ) (size : ℕ) (within : (id : ℕ) → g id < size) (s : MarkStores) (fresh : Fresh size s) where
   -- the ids whose position collide has are those that the level rule sends on
   pub placed-rest : (ids : List ℕ) → sift (goesOn g (markAll g s ids .collide)) ids ≡ rest g ids
   placed-rest ids =
@@ -48,12 +48,12 @@ module _ (g : ℕ → ℕ) (size : ℕ) (within : (id : ℕ) → g id < size) (s
       (placed-bits ids)
 
   -- so both passes, one after the other, leave what the level rule says
-  pub placed : (count : ℕ) (store : List ℕ) {told : ℕ} {words′ store′ : List ℕ} {m : Stores} → m ≡ markAll g s (take count store)
-      → Filtered g (m .collide) count (m .words) store told words′ store′ → Placed g size count (s .words) (s .collide) store told words′ (m .collide) store′
+  pub placed : (count : ℕ) (store : List ℕ) {told : ℕ} {words′ store′ : List ℕ} {m : MarkStores} → m ≡ markAll g s (take count store)
+      → Filtered g (m .collide) count (m .words) store told words′ store′ → AfterLevel g size count (s .words) (s .collide) store told words′ (m .collide) store′
   placed count store {told} {words′} {store′} marked t = rw marked (both (rw marked at t))
     where
       both : Filtered g (markAll g s (take count store) .collide) count (markAll g s (take count store) .words) store told words′ store′
-          → Placed g size count (s .words) (s .collide) store told words′ (markAll g s (take count store) .collide) store′
+          → AfterLevel g size count (s .words) (s .collide) store told words′ (markAll g s (take count store) .collide) store′
       both t = record {
         words-are = t .words-are ∙ placed-words (take count store);
         collide-is = marked-collide g size within s fresh (take count store);

@@ -1,4 +1,4 @@
--- One level on words (01's module 4): its ids are marked one after another, then filtered one after another; and what the level leaves by the level rule.
+-- One level on words: its ids are marked one after another, then filtered one after another; and what the level leaves by the level rule.
 -- A function g gives each id its position.
 use mathlib.Core.Path.{_≡_}
 use mathlib.Core.Bool.{Bool, cond}
@@ -9,40 +9,41 @@ use lib.ListN.{length, take, drop, replicate}
 use Rattle.bounds.specs.Bounds.{maxBits}
 use Rattle.laws.specs.Counting.{hits, sift}
 use Rattle.laws.specs.Bits.{has, wordsFor, withBit, withoutBit, packed}
+use Rattle.laws.specs.Stores.{fronted}
 use Rattle.rule.specs.Rule.{single, rest}
 
 -- ---- what a level asks
 
 -- a size within the bound, and the words that it needs in both stores
-pub record Ready (size : ℕ) (words collide : List ℕ) : Type 0 where
+pub record LevelRoom (size : ℕ) (words collide : List ℕ) : Type 0 where
   pub positive : 0 < size
   pub bound : size ≤ maxBits
   pub own-room : wordsFor size ≤ length words
   pub collide-room : wordsFor size ≤ length collide
 
 -- the first n words are 0
-abbrev pub Clear : ℕ → List ℕ → Type 0
-Clear n words = take n words ≡ replicate n 0
+abbrev pub ClearWords : ℕ → List ℕ → Type 0
+ClearWords n words = take n words ≡ replicate n 0
 
 -- ---- marking
 
 -- the stores that are marked in: the level's words, and collide's
-pub record Stores : Type 0 where
+pub record MarkStores : Type 0 where
   pub words : List ℕ
   pub collide : List ℕ
 
-abbrev pub stores : List ℕ → List ℕ → Stores
-stores words collide = record { words = words; collide = collide }
+abbrev pub markStores : List ℕ → List ℕ → MarkStores
+markStores words collide = record { words = words; collide = collide }
 
 -- One id: where collide has its position nothing happens; else where the level has it, collide gets it; else the level gets it.
-unfoldable pub markOne : (ℕ → ℕ) → Stores → ℕ → Stores
+unfoldable pub markOne : (ℕ → ℕ) → MarkStores → ℕ → MarkStores
 markOne g s id =
     cond (has (s .collide) (g id)) s
-    (cond (has (s .words) (g id)) (stores (s .words) (withBit (s .collide) (g id)))
-    (stores (withBit (s .words) (g id)) (s .collide)))
+    (cond (has (s .words) (g id)) (markStores (s .words) (withBit (s .collide) (g id)))
+    (markStores (withBit (s .words) (g id)) (s .collide)))
 
 -- all ids of a list, in order
-abbrev pub markAll : (ℕ → ℕ) → Stores → List ℕ → Stores
+abbrev pub markAll : (ℕ → ℕ) → MarkStores → List ℕ → MarkStores
 markAll g s ids = foldl (markOne g) s ids
 
 -- ---- filtering
@@ -58,10 +59,6 @@ filterOne g collide words id = cond (goesOn g collide id) (withoutBit words (g i
 -- all ids of a list, in order
 abbrev pub filterAll : (ℕ → ℕ) → List ℕ → List ℕ → List ℕ → List ℕ
 filterAll g collide words ids = foldl (filterOne g collide) words ids
-
--- a store with a list at its front, and as it was past that
-abbrev pub fronted : List ℕ → List ℕ → List ℕ
-fronted front store = front ++ drop (length front) store
 
 -- what filtering one id tells and leaves
 pub record OneFiltered (g : ℕ → ℕ) (collide words : List ℕ) (id : ℕ) (told : Bool) (words′ : List ℕ) : Type 0 where
@@ -85,7 +82,7 @@ shared g ids p = leb 2 (hits g p ids)
 
 -- What a level leaves in words that were 0, for the first `count` ids of the rest store. Its bits are the positions that exactly one of them has, and collide's
 -- those that two or more have; the ids that go on stand at the front of the rest store, and their number is told. All else is as it was.
-pub record Placed (g : ℕ → ℕ) (size count : ℕ) (words collide store : List ℕ) (told : ℕ) (words′ collide′ store′ : List ℕ) : Type 0 where
+pub record AfterLevel (g : ℕ → ℕ) (size count : ℕ) (words collide store : List ℕ) (told : ℕ) (words′ collide′ store′ : List ℕ) : Type 0 where
   pub words-are : words′ ≡ packed (wordsFor size) (single g (take count store)) ++ drop (wordsFor size) words
   pub collide-is : collide′ ≡ packed (wordsFor size) (shared g (take count store)) ++ drop (wordsFor size) collide
   pub store-is : store′ ≡ fronted (rest g (take count store)) store

@@ -1,21 +1,21 @@
-// One level of a build (01's module 4, boomphf's `Context`): the ids that come to it are marked, then those whose position is shared are filtered out and go
+// One level of a build (boomphf's `Context`): the ids that come to it are marked, then those whose position is shared are filtered out and go
 // on. It works in lent words that start at the level and in the first words of collide. An id's bit is its position among the `size` bits of the level.
 ghost use mathlib.Core.Path.{_≡_};
 ghost use Prim.Native.Nat.{_≤_};
 ghost use lib.ListN.{length};
 ghost use Rattle.laws.specs.Bits.{wordsFor};
 ghost use Rattle.mixer.specs.Position.{position};
-ghost use Rattle.level.specs.Level.{Ready, Clear, stores, markOne, markAll, OneFiltered, Filtered, Placed};
-use bitvector::add_bit;
-use bitvector::drop_bit;
-use bitvector::has_bit;
+ghost use Rattle.level.specs.Level.{LevelRoom, ClearWords, markStores, markOne, markAll, OneFiltered, Filtered, AfterLevel};
 use mixer::hashmod;
+use words::add_bit;
+use words::drop_bit;
+use words::has_bit;
 
 // Marks one id: its bit is set in the level where it is met first, in collide where it is met again.
 fn mark_one(level: u64, size: u64, id: u64, words: &mut [u64], collide: &mut [u64])
-    requires { ⌜ Ready size (now words) (now collide) ⌝ }
-    ensures { λ _. ⌜ stores (now (words .exit)) (now (collide .exit))
-        ≡ markOne (position level size) (stores (now (words .entry)) (now (collide .entry))) id ⌝ }
+    requires { ⌜ LevelRoom size (now words) (now collide) ⌝ }
+    ensures { λ _. ⌜ markStores (now (words .exit)) (now (collide .exit))
+        ≡ markOne (position level size) (markStores (now (words .entry)) (now (collide .entry))) id ⌝ }
 {
     let bit = hashmod(level, id, size);
     if !has_bit(collide, bit) && add_bit(words, bit) {
@@ -25,9 +25,9 @@ fn mark_one(level: u64, size: u64, id: u64, words: &mut [u64], collide: &mut [u6
 
 // Marks each id.
 fn mark(level: u64, size: u64, ids: &[u64], words: &mut [u64], collide: &mut [u64])
-    requires { ⌜ Ready size (now words) (now collide) ⌝ }
-    ensures { λ _. ⌜ stores (now (words .exit)) (now (collide .exit))
-        ≡ markAll (position level size) (stores (now (words .entry)) (now (collide .entry))) (now (ids .entry)) ⌝ }
+    requires { ⌜ LevelRoom size (now words) (now collide) ⌝ }
+    ensures { λ _. ⌜ markStores (now (words .exit)) (now (collide .exit))
+        ≡ markAll (position level size) (markStores (now (words .entry)) (now (collide .entry))) (now (ids .entry)) ⌝ }
 {
     for i in 0..ids.len() {
         mark_one(level, size, ids[i], words, collide);
@@ -36,7 +36,7 @@ fn mark(level: u64, size: u64, ids: &[u64], words: &mut [u64], collide: &mut [u6
 
 // Filters one id: whether it goes on. If so, its bit is cleared.
 fn filter_one(level: u64, size: u64, id: u64, words: &mut [u64], collide: &[u64]) -> bool
-    requires { ⌜ Ready size (now words) (now collide) ⌝ }
+    requires { ⌜ LevelRoom size (now words) (now collide) ⌝ }
     ensures { λ r. ⌜ OneFiltered (position level size) (now (collide .entry)) (now (words .entry)) id r (now (words .exit)) ⌝ }
 {
     let bit = hashmod(level, id, size);
@@ -56,7 +56,7 @@ fn filter(
     words: &mut [u64],
     collide: &[u64],
 ) -> usize
-    requires { ⌜ Ready size (now words) (now collide) × (count ≤ length (now rest)) ⌝ }
+    requires { ⌜ LevelRoom size (now words) (now collide) × (count ≤ length (now rest)) ⌝ }
     ensures { λ r. ⌜ Filtered (position level size) (now (collide .entry)) count (now (words .entry)) (now (rest .entry))
         r (now (words .exit)) (now (rest .exit)) ⌝ }
 {
@@ -80,9 +80,9 @@ pub fn place(
     words: &mut [u64],
     collide: &mut [u64],
 ) -> usize
-    requires { ⌜ Ready size (now words) (now collide) × (count ≤ length (now rest))
-        × Clear (wordsFor size) (now words) × Clear (wordsFor size) (now collide) ⌝ }
-    ensures { λ r. ⌜ Placed (position level size) size count (now (words .entry)) (now (collide .entry)) (now (rest .entry))
+    requires { ⌜ LevelRoom size (now words) (now collide) × (count ≤ length (now rest))
+        × ClearWords (wordsFor size) (now words) × ClearWords (wordsFor size) (now collide) ⌝ }
+    ensures { λ r. ⌜ AfterLevel (position level size) size count (now (words .entry)) (now (collide .entry)) (now (rest .entry))
         r (now (words .exit)) (now (collide .exit)) (now (rest .exit)) ⌝ }
 {
     mark(level, size, &rest[..count], words, collide);

@@ -5,7 +5,7 @@ use native.Mathlib.Omega.{arith}
 use lib.Pow.{pow-pos, shr-le}
 use lib.Bits.{xor-lt}
 use Rattle.mixer.specs.Mixer.{stirred, mixed, seedWord, hashed}
-use Rattle.mixer.specs.Position.{folded, placed, position}
+use Rattle.mixer.specs.Position.{folded, scaled, position}
 
 stirred-lt : (k n : ℕ) → stirred k (n % 2 ^ 64) < 2 ^ 64
 stirred-lt k n =
@@ -19,7 +19,7 @@ mixed-lt id seed = search stirred-lt
 pub folded-lt : (h : ℕ) → h < 2 ^ 64 → folded h < 2 ^ 32
 folded-lt h l = xor-lt 32 (h % 2 ^ 32) (h / 2 ^ 32) (omega arith) (omega arith)
 
-pub placed-lt : (f s : ℕ) → f < 2 ^ 32 → 0 < s → placed f s < s
+pub placed-lt : (f s : ℕ) → f < 2 ^ 32 → 0 < s → scaled f s < s
 placed-lt f s h p = div-lt-iff-lt-mul (pow-pos 32) .1 (omega (arith, mul-lt-mul-of-pos-right h p))
 
 -- a position is below the size

@@ -1,4 +1,4 @@
--- The hash of an id at a level: 01's plain mixer, which is the public SplitMix64 step, over the level's seed word. All in whole numbers, each word below 2 ^ 64.
+-- The hash of an id at a level: the plain mixer, which is the public SplitMix64 step, over the level's seed word. All in whole numbers, each word below 2 ^ 64.
 use Prim.Native.Nat.{ℕ, _+_, _*_, _/_, _%_, _^_}
 use mathlib.Core.Bool.{cond}
 use lib.Dec.{ltb}

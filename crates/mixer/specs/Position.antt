@@ -8,9 +8,9 @@ abbrev pub folded : ℕ → ℕ
 folded h = bitXor (h % 2 ^ 32) (h / 2 ^ 32)
 
 -- a folded hash f among s: f times s / 2 ^ 32, rounded down
-abbrev pub placed : ℕ → ℕ → ℕ
-placed f s = f * s / 2 ^ 32
+abbrev pub scaled : ℕ → ℕ → ℕ
+scaled f s = f * s / 2 ^ 32
 
 -- the position rule: level i, of s bits, and an id
 unfoldable pub position : ℕ → ℕ → ℕ → ℕ
-position i s id = placed (folded (hashed i id)) s
+position i s id = scaled (folded (hashed i id)) s

@@ -1,9 +1,10 @@
-// From an id to its position among the bits of a level (01's module 2): the plain mixer, which is the public SplitMix64 step, the seed word of a level, and
+// From an id to its position among the bits of a level : the plain mixer, which is the public SplitMix64 step, the seed word of a level, and
 // the position of the folded hash. The names are boomphf's where it has one.
 ghost use mathlib.Core.Path.{_≡_};
-ghost use Prim.Native.Nat.{_*_, _%_, _^_, _<_};
+ghost use Prim.Native.Nat.{_*_, _%_, _^_, _≤_};
+ghost use Rattle.bounds.specs.Bounds.{maxBits};
 ghost use Rattle.mixer.specs.Mixer.{mixed, seedWord, hashed};
-ghost use Rattle.mixer.specs.Position.{folded, placed, position};
+ghost use Rattle.mixer.specs.Position.{folded, scaled, position};
 
 // a * b modulo 2^64. The halves' products fit, and that of the two high halves falls away.
 pub fn wrapping_mul(a: u64, b: u64) -> u64
@@ -51,14 +52,14 @@ pub fn fold(v: u64) -> u32
 
 // The place of a folded hash among n.
 pub fn fastmod(hash: u32, n: u32) -> u64
-    ensures { λ r. ⌜ r ≡ placed hash n ⌝ }
+    ensures { λ r. ⌜ r ≡ scaled hash n ⌝ }
 {
     ((hash as u64) * (n as u64)) >> 32
 }
 
 // The position of an id among the n bits of a level.
 pub fn hashmod(level: u64, id: u64, n: u64) -> u64
-    requires { ⌜ n < 2 ^ 32 ⌝ }
+    requires { ⌜ n ≤ maxBits ⌝ }
     ensures { λ r. ⌜ r ≡ position level n id ⌝ }
 {
     fastmod(fold(hash_with_seed(level, id)), n as u32)

@@ -1,4 +1,4 @@
-// Ranks (01's module 5): a level's samples, the ones below a position from its sample on, and a level's part of a store.
+// Ranks: a level's samples, the ones below a position from its sample on, and a level's part of a store.
 ghost use mathlib.Core.Path.{_≡_};
 ghost use Prim.Native.Nat.{_+_, _*_, _^_, _≤_, _<_};
 ghost use lib.ListN.{length, take, drop};
@@ -6,7 +6,7 @@ ghost use Rattle.sizes.specs.Sizes.{samplesFor};
 ghost use Rattle.ranks.specs.Ranks.{onesFrom, Sampled};
 
 // There is a sample for every so many words.
-const STRIDE: usize = 8;
+const STRIDE: usize = bounds::SAMPLE_WORDS as usize;
 
 // The n words or samples from a place on: a level's part of a store in which the levels lie one after another.
 pub fn part(store: &[u64], at: usize, n: usize) -> &[u64]

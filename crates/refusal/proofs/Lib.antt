@@ -1,1 +1,2 @@
 pub mod Apart
+pub mod Once

@@ -1,4 +1,4 @@
--- 01's table of refusal numbers: the number of each case, and the value that it carries.
+-- The table of refusal numbers: the number of each case, and the value that it carries.
 use Prim.Native.Nat.{ℕ}
 use Rattle.refusal.specs.declared.Refusal.{Refusal}
 use Rattle.refusal.specs.declared.Refusal.the-variants.{GammaTooSmall, GammaTooLarge, TooManyIds, ShortWorkStore, NoRoomForLevel, IdsRemain}
@@ -17,6 +17,10 @@ numberOf BitOutside = 9
 numberOf UnfitSet = 10
 numberOf ShortOutput = 11
 numberOf WrongIds = 12
+
+-- the last number of the table
+abbrev pub lastNumber : ℕ
+lastNumber = 12
 
 -- 5 carries the level, 6 how many ids remain; the others nothing, which is 0
 abbrev pub valueOf : Refusal → ℕ

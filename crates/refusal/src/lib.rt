@@ -1,4 +1,4 @@
-// Why a call is refused: 01's table of refusal numbers, a case for each, with the value that it carries.
+// Why a call is refused: the table of refusal numbers, a case for each, with the value that it carries; and the answers that several calls share.
 ghost use mathlib.Core.Path.{_≡_};
 ghost use Rattle.refusal.specs.Table.{numberOf, valueOf};
 
@@ -29,7 +29,24 @@ pub enum Refusal {
     WrongIds,
 }
 
-// The refusal's number in 01's table.
+// What a call answers: done; yes or no; a count. Each can be a refusal with its reason.
+pub enum Made {
+    Done,
+    Refused(Refusal),
+}
+
+pub enum Said {
+    Yes,
+    No,
+    Refused(Refusal),
+}
+
+pub enum Counted {
+    Count(u64),
+    Refused(Refusal),
+}
+
+// The refusal's number in the table.
 pub fn number(r: Refusal) -> u64
     ensures { λ n. ⌜ n ≡ numberOf r ⌝ }
 {

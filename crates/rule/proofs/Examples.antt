@@ -8,20 +8,20 @@ use native.Mathlib.Nat.{mod-lt}
 use native.Mathlib.Omega.{arith}
 use lib.Dec.{T, eqb, ltb, lit<}
 use Rattle.laws.specs.Tables.{all, equal}
-use Rattle.rule.specs.Rule.{Rule, left, span, bit, Room, Outcome, built, noRoom, idsLeft, runFrom, run, rowAt, sample, Place, first, find, rowList}
+use Rattle.rule.specs.Rule.{Rule, remaining, span, bit, Room, RunEnd, built, noRoom, idsLeft, runFrom, run, rowAt, sample, RowPlace, first, find, rowList}
 use Rattle.rule.specs.Demand.{Sound, Perfect}
 use Rattle.rule.proofs.Demand.{demand3}
 
 -- two outcomes and two lookups are the same
-abbrev told : Outcome → List ℕ
+abbrev told : RunEnd → List ℕ
 told (built n) = 0 ∷ n ∷ []
 told (noRoom i) = 1 ∷ i ∷ []
 told (idsLeft n) = 2 ∷ n ∷ []
 
-abbrev ends : Outcome → Outcome → Bool
+abbrev ends : RunEnd → RunEnd → Bool
 ends a b = equal (told a) (told b)
 
-abbrev shown : Option Place → List ℕ
+abbrev shown : Option RowPlace → List ℕ
 shown none = []
 shown (some u) = u .row ∷ u .level ∷ u .position ∷ []
 
@@ -54,8 +54,8 @@ many i p = ltb p 576
 
 rows : T (all
     -- three ids: 11 and 21 go on, in their order, to a smaller level; the run is built with two levels, where there is room for them
-    (equal (left digits three 1) (11 ∷ 21 ∷ [])
-    ∷ equal (left digits three 2) []
+    (equal (remaining digits three 1) (11 ∷ 21 ∷ [])
+    ∷ equal (remaining digits three 2) []
     ∷ equal (span digits three 0 ∷ span digits three 1 ∷ []) (10 ∷ 9 ∷ [])
     ∷ not (bit digits three 0 1)
     ∷ bit digits three 0 2
@@ -75,7 +75,7 @@ rows : T (all
     ∷ equal (rowList digits three 2) (32 ∷ 11 ∷ 21 ∷ [])
     -- a bit that three ids share stays clear
     ∷ not (bit digits shared 0 1)
-    ∷ equal (left digits shared 1) shared
+    ∷ equal (remaining digits shared 1) shared
     -- an id given twice is left to the end
     ∷ ends (run digits (room 100 10) twice 3) (idsLeft 2)
     -- no ids: one level, and no row
@@ -87,7 +87,7 @@ rows : T (all
     ∷ equal (sample wide many 0 0 ∷ sample wide many 0 1 ∷ sample wide many 1 1 ∷ []) (0 ∷ 512 ∷ 1088 ∷ [])
     ∷ equal (rowAt wide many 0 512 ∷ rowAt wide many 0 513 ∷ []) (512 ∷ 513 ∷ [])
     ∷ []))
-unfolding left first runFrom
+unfolding remaining first runFrom
 rows = tt
 
 -- the rule is sound, so demand 3 holds of its runs
@@ -95,7 +95,7 @@ sound : Sound digits
 sound = record { within = λ i s x h. mod-lt (x / 10 ^ i) h; positive = λ n. omega arith }
 
 three-built : run digits (room 19 2) three 100 ≡ built 2
-unfolding left runFrom
+unfolding remaining runFrom
 three-built = refl
 
 three-perfect : Perfect digits three 2

@@ -7,7 +7,7 @@ use native.Mathlib.Decide.{le-ind}
 use native.Mathlib.Omega.{arith}
 use lib.ListN.{length}
 use Rattle.laws.specs.Counting.{count}
-use Rattle.rule.specs.Rule.{Rule, left, span, bit, base}
+use Rattle.rule.specs.Rule.{Rule, remaining, span, bit, base}
 use Rattle.rule.specs.Demand.{Sound, Levels}
 use Rattle.rule.proofs.Level.{level-balance, rest-length, rest-all, rest-none, twice-unset}
 
@@ -20,26 +20,26 @@ module _ (rule : Rule) (ids : List ℕ) where
   marked i x = bit rule ids i (spot i x)
 
   -- x stays as often as it stood where its bit is not set, and goes where it is
-  pub stays : (i x : ℕ) → marked i x ≡ false → count x (left rule ids (suc i)) ≡ count x (left rule ids i)
-  unfolding left
-  stays i x e = rest-all (spot i) (left rule ids i) x e
+  pub stays : (i x : ℕ) → marked i x ≡ false → count x (remaining rule ids (suc i)) ≡ count x (remaining rule ids i)
+  unfolding remaining
+  stays i x e = rest-all (spot i) (remaining rule ids i) x e
 
-  pub goes : (i x : ℕ) → marked i x ≡ true → count x (left rule ids (suc i)) ≡ 0
-  unfolding left
-  goes i x e = rest-none (spot i) (left rule ids i) x e
+  pub goes : (i x : ℕ) → marked i x ≡ true → count x (remaining rule ids (suc i)) ≡ 0
+  unfolding remaining
+  goes i x e = rest-none (spot i) (remaining rule ids i) x e
 
-  fewer : (i x : ℕ) → count x (left rule ids (suc i)) ≤ count x (left rule ids i)
+  fewer : (i x : ℕ) → count x (remaining rule ids (suc i)) ≤ count x (remaining rule ids i)
   fewer i x = go (marked i x) refl
     where
-      go : (b : Bool) → marked i x ≡ b → count x (left rule ids (suc i)) ≤ count x (left rule ids i)
+      go : (b : Bool) → marked i x ≡ b → count x (remaining rule ids (suc i)) ≤ count x (remaining rule ids i)
       go true e = omega (arith, goes i x e)
       go false e = omega (arith, stays i x e)
 
-  pub fewer-le : (x : ℕ) {i j : ℕ} → i ≤ j → count x (left rule ids j) ≤ count x (left rule ids i)
-  fewer-le x {i} {j} h = le-ind (λ (k : ℕ). count x (left rule ids k) ≤ count x (left rule ids i)) (omega arith) (λ k l e. omega (arith, fewer k x)) j h
+  pub fewer-le : (x : ℕ) {i j : ℕ} → i ≤ j → count x (remaining rule ids j) ≤ count x (remaining rule ids i)
+  fewer-le x {i} {j} h = le-ind (λ (k : ℕ). count x (remaining rule ids k) ≤ count x (remaining rule ids i)) (omega arith) (λ k l e. omega (arith, fewer k x)) j h
 
   -- an id that is left has no bit set in the levels before
-  pub unset : (x i j : ℕ) → i < j → 0 < count x (left rule ids j) → marked i x ≡ false
+  pub unset : (x i j : ℕ) → i < j → 0 < count x (remaining rule ids j) → marked i x ≡ false
   unset x i j h m = go (marked i x) refl
     where
       go : (b : Bool) → marked i x ≡ b → b ≡ false
@@ -47,33 +47,33 @@ module _ (rule : Rule) (ids : List ℕ) where
       go false e = refl
 
   -- an id that stands twice is left by every level
-  pub twice : (x : ℕ) → 2 ≤ count x ids → (i : ℕ) → 2 ≤ count x (left rule ids i)
-  unfolding left
+  pub twice : (x : ℕ) → 2 ≤ count x ids → (i : ℕ) → 2 ≤ count x (remaining rule ids i)
+  unfolding remaining
   twice x h zero = h
   twice x h (suc i) =
       let r = twice x h i in
-      omega (arith, stays i x (twice-unset (spot i) (left rule ids i) x r), r)
+      omega (arith, stays i x (twice-unset (spot i) (remaining rule ids i) x r), r)
 
   -- no level leaves more ids than came in
-  pub left-fewer : (i j : ℕ) → i ≤ j → length (left rule ids j) ≤ length (left rule ids i)
-  unfolding left
-  left-fewer i j h =
-      le-ind (λ (k : ℕ). length (left rule ids k) ≤ length (left rule ids i)) (omega arith)
-      (λ k l e. omega (arith, rest-length (spot k) (left rule ids k))) j h
+  pub remaining-fewer : (i j : ℕ) → i ≤ j → length (remaining rule ids j) ≤ length (remaining rule ids i)
+  unfolding remaining
+  remaining-fewer i j h =
+      le-ind (λ (k : ℕ). length (remaining rule ids k) ≤ length (remaining rule ids i)) (omega arith)
+      (λ k l e. omega (arith, rest-length (spot k) (remaining rule ids k))) j h
 
   module _ (sound : Sound rule) where
     pub spot-lt : (i x : ℕ) → spot i x < span rule ids i
-    spot-lt i x = sound .within i (span rule ids i) x (sound .positive (length (left rule ids i)))
+    spot-lt i x = sound .within i (span rule ids i) x (sound .positive (length (remaining rule ids i)))
 
     pub levels : Levels rule ids
-    unfolding left
+    unfolding remaining
     levels = record {
-      balance = λ i. level-balance (spot i) (left rule ids i) (span rule ids i) (spot-lt i);
-      no-rise = λ mono i j h. mono (length (left rule ids j)) (length (left rule ids i)) (left-fewer i j h) (left-fewer 0 i (omega arith));
+      balance = λ i. level-balance (spot i) (remaining rule ids i) (span rule ids i) (spot-lt i);
+      no-rise = λ mono i j h. mono (length (remaining rule ids j)) (length (remaining rule ids i)) (remaining-fewer i j h) (remaining-fewer 0 i (omega arith));
     }
 
     -- every id has a set bit of its own below level i, or is left there
-    pub all-accounted : (i : ℕ) → base (span rule ids) (bit rule ids) i + length (left rule ids i) ≡ length ids
-    unfolding left
+    pub all-accounted : (i : ℕ) → base (span rule ids) (bit rule ids) i + length (remaining rule ids i) ≡ length ids
+    unfolding remaining
     all-accounted zero = omega arith
     all-accounted (suc i) = omega (arith, all-accounted i, levels .balance i)

@@ -7,16 +7,16 @@ use lib.Dec.{eqb, leb}
 use Rattle.laws.specs.Counting.{sift, blocks, Same}
 use Rattle.laws.proofs.Counts.{same-length, same-sift, same-one, length-sift, perm-same}
 use Rattle.laws.proofs.Blocks.{blocks-same}
-use Rattle.rule.specs.Rule.{Rule, single, rest, left, span, bit, start, Room, idsLeft, fits, runFrom, lookup, atBit, inLevel}
+use Rattle.rule.specs.Rule.{Rule, single, rest, remaining, span, bit, start, Room, idsLeft, fits, runFrom, lookup, atBit, inLevel}
 use Rattle.rule.specs.Demand.{SameIndex}
 use Rattle.rule.proofs.Level.{set-one, same-single, same-rest}
 
 module _ (rule : Rule) {xs ys : List ℕ} (s : Same xs ys) where
-  same-left : (i : ℕ) → Same (left rule xs i) (left rule ys i)
-  unfolding left
+  same-left : (i : ℕ) → Same (remaining rule xs i) (remaining rule ys i)
+  unfolding remaining
   same-left zero = s
   same-left (suc i) =
-      subst (λ (n : ℕ). Same (left rule xs (suc i)) (rest (rule .pos i (rule .size n)) (left rule ys i))) (same-length (same-left i))
+      subst (λ (n : ℕ). Same (remaining rule xs (suc i)) (rest (rule .pos i (rule .size n)) (remaining rule ys i))) (same-length (same-left i))
       (same-rest (rule .pos i (span rule xs i)) (same-left i))
 
   same-span : span rule xs ≡ span rule ys
@@ -25,7 +25,7 @@ module _ (rule : Rule) {xs ys : List ℕ} (s : Same xs ys) where
   same-bit : bit rule xs ≡ bit rule ys
   same-bit = fun-ext (λ i. fun-ext (λ p.
       same-single (rule .pos i (span rule xs i)) (same-left i) p
-      ∙ ap (λ (n : ℕ). single (rule .pos i (rule .size n)) (left rule ys i) p) (same-length (same-left i))))
+      ∙ ap (λ (n : ℕ). single (rule .pos i (rule .size n)) (remaining rule ys i) p) (same-length (same-left i))))
 
   same-fits : (room : Room) (i : ℕ) → fits rule room xs i ≡ fits rule room ys i
   same-fits room i =
@@ -40,15 +40,15 @@ module _ (rule : Rule) {xs ys : List ℕ} (s : Same xs ys) where
   same-at : (i p : ℕ) → atBit rule xs i p ≡ atBit rule ys i p
   same-at i p =
       go (bit rule xs i p) refl
-      ∙ ap₂ (λ (w : ℕ → ℕ) (b : ℕ → ℕ → Bool). cond (b i p) (sift (λ x. eqb (rule .pos i (w i) x) p) (left rule ys i)) []) same-span same-bit
+      ∙ ap₂ (λ (w : ℕ → ℕ) (b : ℕ → ℕ → Bool). cond (b i p) (sift (λ x. eqb (rule .pos i (w i) x) p) (remaining rule ys i)) []) same-span same-bit
     where
       go : (b : Bool) → bit rule xs i p ≡ b
-          → cond b (sift (λ x. eqb (rule .pos i (span rule xs i) x) p) (left rule xs i)) []
-          ≡ cond b (sift (λ x. eqb (rule .pos i (span rule xs i) x) p) (left rule ys i)) []
+          → cond b (sift (λ x. eqb (rule .pos i (span rule xs i) x) p) (remaining rule xs i)) []
+          ≡ cond b (sift (λ x. eqb (rule .pos i (span rule xs i) x) p) (remaining rule ys i)) []
       go true e =
           same-one (same-sift (λ x. eqb (rule .pos i (span rule xs i) x) p) (same-left i))
-          (length-sift (λ x. eqb (rule .pos i (span rule xs i) x) p) (left rule xs i)
-          ∙ set-one (rule .pos i (span rule xs i)) (left rule xs i) p e)
+          (length-sift (λ x. eqb (rule .pos i (span rule xs i) x) p) (remaining rule xs i)
+          ∙ set-one (rule .pos i (span rule xs i)) (remaining rule xs i) p e)
       go false e = refl
 
   same-in : (i : ℕ) → inLevel rule xs i ≡ inLevel rule ys i

@@ -8,7 +8,7 @@ use native.Mathlib.Omega.{arith}
 use Rattle.laws.specs.Counting.{one, rank}
 use Rattle.laws.proofs.Cases.{Tri, lt, eq, gt, tri}
 use Rattle.laws.proofs.Sums.{sum-same, sum-mono, sum-split, rank-same, rank-lt}
-use Rattle.rule.specs.Rule.{ones, base, rowAt, sample, Place, first, place, lookup, rowOf}
+use Rattle.rule.specs.Rule.{ones, base, rowAt, sample, RowPlace, first, place, lookup, rowOf}
 
 -- a row is the sample at position / 512 and the ones from there on
 pub row-by-sample : (span : ℕ → ℕ) (bits : ℕ → ℕ → Bool) (i p : ℕ)
@@ -18,7 +18,7 @@ row-by-sample span bits i p =
     omega (arith, sum-split (λ q. one (bits i q)) (512 * (p / 512)) (p % 512))
 
 -- a row that is found is that of a place
-pub row-found : (o : Option Place) (k : ℕ) → rowOf o ≡ some k → (u : Place) × (o ≡ some u) × (u .row ≡ k)
+pub row-found : (o : Option RowPlace) (k : ℕ) → rowOf o ≡ some k → (u : RowPlace) × (o ≡ some u) × (u .row ≡ k)
 row-found none k e = let z : _≡_ {A = ℕ} 0 1 = cc in absurd (omega arith)
 row-found (some u) k e = (u, refl, cc)
 
@@ -58,13 +58,13 @@ module _ (pos : ℕ → ℕ → ℕ → ℕ) (span : ℕ → ℕ) (bits : ℕ �
           (h .0, omega (arith, h .1))
 
   -- what a lookup finds is the place of x in such a level
-  pub record Finds (n x : ℕ) (u : Place) : Type 0 where
+  pub record Finds (n x : ℕ) (u : RowPlace) : Type 0 where
     pub level-lt : u .level < n
     pub position-is : u .position ≡ pos (u .level) (span (u .level)) x
     pub is-set : bits (u .level) (u .position) ≡ true
     pub row-is : u .row ≡ rowAt span bits (u .level) (u .position)
 
-  pub lookup-finds : (n x : ℕ) {u : Place} → lookup pos span bits n x ≡ some u → Finds n x u
+  pub lookup-finds : (n x : ℕ) {u : RowPlace} → lookup pos span bits n x ≡ some u → Finds n x u
   lookup-finds n x {u} e = go (first pos span bits n 0 x) refl e
     where
       go : (o : Option ℕ) → first pos span bits n 0 x ≡ o → place pos span bits x o ≡ some u → Finds n x u
@@ -75,7 +75,7 @@ module _ (pos : ℕ → ℕ → ℕ → ℕ) (span : ℕ → ℕ) (bits : ℕ �
           subst (Finds n x) z (record { level-lt = omega (arith, h .1); position-is = refl; is-set = h .0; row-is = refl })
 
   -- no row lies beyond the set bits, whatever is looked for
-  pub lookup-lt : (n : ℕ) → ((i x : ℕ) → i < n → pos i (span i) x < span i) → (x : ℕ) {u : Place} → lookup pos span bits n x ≡ some u
+  pub lookup-lt : (n : ℕ) → ((i x : ℕ) → i < n → pos i (span i) x < span i) → (x : ℕ) {u : RowPlace} → lookup pos span bits n x ≡ some u
       → u .row < base span bits n
   lookup-lt n within x {u} e =
       let f = lookup-finds n x e in
@@ -87,7 +87,16 @@ module _ (pos : ℕ → ℕ → ℕ → ℕ) (span : ℕ → ℕ) (bits : ℕ �
         sum-mono (ones span bits) {m = suc (u .level)} {n = n} (f .level-lt),
       )
 
--- ---- two readers who have the same n levels: the same sizes, and the same bits below them
+-- ---- two readers
+
+-- who see the same bit at the position of x in each of the levels find the same first level
+pub first-same : (pos : ℕ → ℕ → ℕ → ℕ) (s t : ℕ → ℕ) (b c : ℕ → ℕ → Bool) (x m i : ℕ)
+    → ((j : ℕ) → j < i + m → b j (pos j (s j) x) ≡ c j (pos j (t j) x)) → first pos s b m i x ≡ first pos t c m i x
+unfolding first
+first-same pos s t b c x zero i e = refl
+first-same pos s t b c x (suc m) i e = rw (e i (omega arith), first-same pos s t b c x m (suc i) (λ j h. e j (omega arith)))
+
+-- who have the same n levels: the same sizes, and the same bits below them
 
 pub record SameLevels (s t : ℕ → ℕ) (b c : ℕ → ℕ → Bool) (n : ℕ) : Type 0 where
   pub sizes : (i : ℕ) → i < n → s i ≡ t i
@@ -106,16 +115,14 @@ module _ (s t : ℕ → ℕ) (b c : ℕ → ℕ → Bool) (n : ℕ) (same : Same
 
   -- and the same lookups, where positions lie below the sizes
   module _ (pos : ℕ → ℕ → ℕ → ℕ) (within : (i x : ℕ) → i < n → pos i (s i) x < s i) where
-    first-agrees : (m i x : ℕ) → i + m ≤ n → first pos s b m i x ≡ first pos t c m i x
-    unfolding first
-    first-agrees zero i x h = refl
-    first-agrees (suc m) i x h =
-        let e : b i (pos i (s i) x) ≡ c i (pos i (t i) x)
-        = same .bits i (pos i (s i) x) (omega arith) (within i x (omega arith)) ∙ ap (λ (k : ℕ). c i (pos i k x)) (same .sizes i (omega arith)) in
-        rw (e, first-agrees m (suc i) x (omega arith))
+    first-agrees : (x : ℕ) → first pos s b n 0 x ≡ first pos t c n 0 x
+    first-agrees x =
+        first-same pos s t b c x n 0
+        (λ j h.
+        same .bits j (pos j (s j) x) (omega arith) (within j x (omega arith)) ∙ ap (λ (k : ℕ). c j (pos j k x)) (same .sizes j (omega arith)))
 
     pub lookup-agrees : (x : ℕ) → lookup pos s b n x ≡ lookup pos t c n x
-    lookup-agrees x = go (first pos s b n 0 x) refl ∙ ap (place pos t c x) (first-agrees n 0 x (omega arith))
+    lookup-agrees x = go (first pos s b n 0 x) refl ∙ ap (place pos t c x) (first-agrees x)
       where
         go : (o : Option ℕ) → first pos s b n 0 x ≡ o → place pos s b x o ≡ place pos t c x o
         go none e = refl

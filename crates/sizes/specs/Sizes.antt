@@ -5,7 +5,7 @@ use mathlib.Core.Bool.{cond}
 use lib.Dec.{leb, eqb}
 use lib.Ieee.{Float}
 use lib.Ieee.Positive.{num, den}
-use Rattle.bounds.specs.Bounds.{minBits}
+use Rattle.bounds.specs.Bounds.{minBits, sampleWords}
 use Rattle.laws.specs.Counting.{rank}
 
 -- how many binary digits x has, p at most: one for each power of two, from 2 ^ 0 on, that is not above x
@@ -37,6 +37,6 @@ wholeProduct gamma r = wholeOf precision (num gamma * r) (den gamma)
 unfoldable pub sizeFor : Float → ℕ → ℕ
 sizeFor gamma r = max minBits (wholeProduct gamma r)
 
--- the samples of so many words: words / 8, rounded up
+-- the samples of so many words: one for every 8 words, rounded up
 abbrev pub samplesFor : ℕ → ℕ
-samplesFor words = (words + 7) / 8
+samplesFor words = (words + (sampleWords - 1)) / sampleWords

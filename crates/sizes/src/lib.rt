@@ -1,10 +1,12 @@
-// The size of a level (01's module 3): gamma's two tests, how many bits a level has for the ids that remain, and how many samples its words take.
+// The size of a level: gamma's two tests, how many bits a level has for the ids that remain, and how many samples its words take.
 ghost use mathlib.Core.Path.{_≡_};
 ghost use Prim.Native.Nat.{_≤_};
 ghost use Rattle.bounds.specs.Bounds.{maxIds, maxBits};
 ghost use Rattle.laws.specs.Bits.{wordsFor};
 ghost use Rattle.sizes.specs.Gamma.{aboveMin, aboveMax, Allowed};
 ghost use Rattle.sizes.specs.Sizes.{sizeFor, samplesFor};
+use bounds::MIN_BITS;
+use bounds::SAMPLE_WORDS;
 
 // A gamma has to be above the one, and not above the other.
 const MIN_GAMMA: f64 = 1.01;
@@ -34,18 +36,14 @@ pub fn size(gamma: f64, ids: u64) -> u64
     ensures { λ r. ⌜ r ≡ sizeFor gamma ids ⌝ }
 {
     if ids == 0 {
-        return bounds::MIN_BITS;
+        return MIN_BITS;
     }
     // The product is from 1 to below 2^53, and so significand * 2^(exponent - 1075), with an exponent from 1023 to 1075.
     let bits = f64::to_bits(gamma * (ids as f64));
     let exponent = bits / LEADING;
     let significand = bits % LEADING + LEADING;
     let whole = significand >> (1075 - exponent);
-    if whole < bounds::MIN_BITS {
-        bounds::MIN_BITS
-    } else {
-        whole
-    }
+    if whole < MIN_BITS { MIN_BITS } else { whole }
 }
 
 // How many samples a level of so many words has: one for every 8 words, and one for those left over.
@@ -53,5 +51,5 @@ pub fn samples(words: u64) -> u64
     requires { ⌜ words ≤ wordsFor maxBits ⌝ }
     ensures { λ r. ⌜ r ≡ samplesFor words ⌝ }
 {
-    (words + 7) / 8
+    (words + (SAMPLE_WORDS - 1)) / SAMPLE_WORDS
 }

@@ -16,7 +16,7 @@ pub fn measure(gamma: f64, ids: u64) -> Takes {
     }
     if sizes::above_min(gamma) {
         let bits = sizes::size(gamma, ids);
-        let words = bitvector::u64s(bits);
+        let words = words::u64s(bits);
         let samples = sizes::samples(words);
         return Takes {
             bits,

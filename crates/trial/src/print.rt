@@ -1,9 +1,9 @@
 // Lines of text with numbers in them, on standard output.
-use bitvector::Counted;
-use bitvector::Made;
-use bitvector::Said;
 use libc::STDOUT_FILENO;
+use refusal::Counted;
+use refusal::Made;
 use refusal::Refusal;
+use refusal::Said;
 
 pub fn text(words: &[u8]) {
     io::write_all(STDOUT_FILENO, words);

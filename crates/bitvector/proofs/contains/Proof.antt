@@ -2,7 +2,8 @@
 use borrow.Author.Needs.{needs}
 use borrow.Author.Tests.{le-ltb}
 use mathlib.Core.Path.{_∙_}
-use Rattle.bitvector.proofs.Soundness.{passed, failed}
+use Rattle.laws.proofs.Cases.{passed, failed}
+use Rattle.bitvector.proofs.Soundness.{yes-said}
 use Rattle.bitvector.proofs.Stores.{bit-word, contained}
 use Rattle.bitvector.proofs.contains.Statement.{statement}
 use Rattle.bitvector.proofs.contains.Tie as tie
@@ -17,5 +18,5 @@ contains-spec =
     (λ c κs. bit-word _ _ _ (passed (c .before .before .is-sound .ensures) (c .before .if1 .left)) (c .if2 .left))
     (λ c κs. search needs)
     (λ c.
-    c .yes-if .ensures _ ∙ rw (c .before .has-bit .ensures)
+    yes-said _ (c .yes-if .ensures) _ ∙ rw (c .before .has-bit .ensures)
     (contained _ _ _ (passed (c .before .before .before .before .is-sound .ensures) (c .before .before .before .if1 .left)) (c .before .before .if2 .left))))

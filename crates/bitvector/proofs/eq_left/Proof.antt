@@ -3,7 +3,8 @@ use borrow.Author.Needs.{needs}
 use borrow.Author.Tests.{le-leb, lt-leb}
 use mathlib.Core.Path.{_∙_}
 use native.Mathlib.Omega.{arith}
-use Rattle.bitvector.proofs.Soundness.{passed, failed, sound-room}
+use Rattle.laws.proofs.Cases.{passed, failed}
+use Rattle.bitvector.proofs.Soundness.{sound-room, yes-said}
 use Rattle.bitvector.proofs.Agreement.{compared}
 use Rattle.bitvector.proofs.eq_left.Statement.{statement}
 use Rattle.bitvector.proofs.eq_left.Tie as tie
@@ -33,4 +34,4 @@ eq-left-spec =
     let e = c .before .before .before .before in
     let s = passed (e .before .before .before .is-sound .ensures) (e .before .before .if1 .left) in
     let t = passed (e .before .is-sound2 .ensures) (e .if2 .left) in
-    c .yes-if .ensures _ ∙ rw (c .before .same-left .ensures) (compared _ _ _ _ _ s t (c .before .before .before .if3 .left) (c .before .before .if4 .left))))
+    yes-said _ (c .yes-if .ensures) _ ∙ rw (c .before .same-left .ensures) (compared _ _ _ _ _ s t (c .before .before .before .if3 .left) (c .before .before .if4 .left))))

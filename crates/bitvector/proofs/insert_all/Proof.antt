@@ -3,7 +3,8 @@ use borrow.Author.Needs.{needs}
 use borrow.Author.Tests.{ne-eqb}
 use mathlib.Core.Path.{_∙_}
 use native.Mathlib.Omega.{arith}
-use Rattle.bitvector.proofs.Soundness.{passed, failed, sound-room}
+use Rattle.laws.proofs.Cases.{passed, failed}
+use Rattle.bitvector.proofs.Soundness.{sound-room, yes-said}
 use Rattle.bitvector.proofs.Joining.{joined}
 use Rattle.bitvector.proofs.insert_all.Statement.{statement}
 use Rattle.bitvector.proofs.insert_all.Tie as tie
@@ -36,4 +37,4 @@ insert-all-spec =
     let s = passed (e .before .before .before .before .is-sound .ensures) (e .before .before .before .if1 .left) in
     let t = passed (e .before .before .is-sound2 .ensures) (e .before .if2 .left) in
     let n = c .before .before .before .before .u64s .ensures in
-    c .yes-if .ensures _ ∙ joined _ _ _ _ s t (e .if3 .left) _ _ (rw n at (c .before .before .before .join .ensures))))
+    yes-said _ (c .yes-if .ensures) _ ∙ joined _ _ _ _ s t (e .if3 .left) _ _ (rw n at (c .before .before .before .join .ensures))))

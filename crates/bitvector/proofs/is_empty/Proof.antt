@@ -5,7 +5,8 @@ use Prim.Native.Nat.{ℕ, _*_, _-_, _≤_}
 use native.Mathlib.Omega.{arith}
 use Rattle.laws.specs.Counting.{rank}
 use Rattle.laws.specs.Bits.{has, wordsFor}
-use Rattle.bitvector.proofs.Soundness.{Roomy, passed, failed, sound-room}
+use Rattle.bitvector.proofs.Soundness.{Roomy, sound-room}
+use Rattle.laws.proofs.Cases.{passed, failed}
 use Rattle.bitvector.proofs.Sizes.{none-found, one-found, none-yet}
 use Rattle.bitvector.proofs.is_empty.Statement.{statement}
 use Rattle.bitvector.proofs.is_empty.Tie as tie

@@ -5,7 +5,8 @@ use Prim.Native.Nat.{ℕ, _*_}
 use native.Mathlib.Omega.{arith}
 use Rattle.laws.specs.Counting.{rank}
 use Rattle.laws.specs.Bits.{has}
-use Rattle.bitvector.proofs.Soundness.{passed, failed, sound-room}
+use Rattle.laws.proofs.Cases.{passed, failed}
+use Rattle.bitvector.proofs.Soundness.{sound-room}
 use Rattle.bitvector.proofs.Sizes.{all-counted}
 use Rattle.bitvector.proofs.len.Statement.{statement}
 use Rattle.bitvector.proofs.len.Tie as tie

@@ -7,7 +7,8 @@ use lib.Seq.{sets}
 use Rattle.laws.specs.Counting.{rank}
 use Rattle.laws.specs.Bits.{has}
 use Rattle.bitvector.specs.Sets.{rising}
-use Rattle.bitvector.proofs.Soundness.{passed, failed, sound-room}
+use Rattle.laws.proofs.Cases.{passed, failed}
+use Rattle.bitvector.proofs.Soundness.{sound-room}
 use Rattle.bitvector.proofs.Rising.{all-listed, no-room}
 use Rattle.bitvector.proofs.members.Statement.{statement}
 use Rattle.bitvector.proofs.members.Tie as tie

@@ -2,8 +2,9 @@
 use borrow.Author.Needs.{needs}
 use mathlib.Core.Path.{ap}
 use native.Mathlib.Omega.{arith}
-use Rattle.bitvector.specs.Calls.{answered}
-use Rattle.bitvector.proofs.Soundness.{passed, failed, roomy-has}
+use Rattle.refusal.specs.Answers.{answered}
+use Rattle.laws.proofs.Cases.{passed, failed}
+use Rattle.bitvector.proofs.Soundness.{roomy-has}
 use Rattle.bitvector.proofs.Fills.{emptied}
 use Rattle.bitvector.proofs.new.Statement.{statement}
 use Rattle.bitvector.proofs.new.Tie as tie

@@ -7,8 +7,9 @@ use native.Mathlib.Omega.{arith}
 use lib.Dec.{lit<}
 use lib.Pow.{pow-pos}
 use Rattle.laws.proofs.Digits.{one-shl}
-use Rattle.bitvector.specs.Calls.{answered}
-use Rattle.bitvector.proofs.Soundness.{passed, failed, roomy-has}
+use Rattle.refusal.specs.Answers.{answered}
+use Rattle.laws.proofs.Cases.{passed, failed}
+use Rattle.bitvector.proofs.Soundness.{roomy-has}
 use Rattle.bitvector.proofs.Fills.{filled-whole, filled-part}
 use Rattle.bitvector.proofs.ones.Statement.{statement}
 use Rattle.bitvector.proofs.ones.Tie as tie

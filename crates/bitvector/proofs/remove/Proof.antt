@@ -2,7 +2,8 @@
 use borrow.Author.Needs.{needs}
 use borrow.Author.Tests.{le-ltb}
 use mathlib.Core.Path.{_∙_}
-use Rattle.bitvector.proofs.Soundness.{passed, failed}
+use Rattle.laws.proofs.Cases.{passed, failed}
+use Rattle.bitvector.proofs.Soundness.{yes-said}
 use Rattle.bitvector.proofs.Stores.{bit-word, removed}
 use Rattle.bitvector.proofs.remove.Statement.{statement}
 use Rattle.bitvector.proofs.remove.Tie as tie
@@ -23,4 +24,4 @@ remove-spec =
     let e = c .before .before .before .before .before in
     let s = passed (e .before .before .is-sound .ensures) (e .before .if1 .left) in
     let step = c .before .before .before .drop-bit .ensures in
-    c .yes-if .ensures _ ∙ rw (step .old, step .words) (removed _ _ _ s (e .if2 .left) (λ i. e .before .before .before .before .slice-known .given i .fits))))
+    yes-said _ (c .yes-if .ensures) _ ∙ rw (step .old, step .words) (removed _ _ _ s (e .if2 .left) (λ i. e .before .before .before .before .slice-known .given i .fits))))

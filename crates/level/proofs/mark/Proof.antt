@@ -6,7 +6,7 @@ use borrow.Author.Needs.{needs}
 use lib.ListN.{length, take}
 use lib.Seq.{take-all}
 use Rattle.mixer.specs.Position.{position}
-use Rattle.level.specs.Level.{stores, markOne, markAll}
+use Rattle.level.specs.Level.{markStores, markOne, markAll}
 use Rattle.level.proofs.Folds.{fold-next}
 use Rattle.level.proofs.mark.Statement.{statement}
 use Rattle.level.proofs.mark.Tie as tie
@@ -14,7 +14,7 @@ use Rattle.level.proofs.mark.Tie as tie
 abbrev Inv-loop : tie.InvT-loop
 Inv-loop level size ids words₀ collide₀ i₀ i-end words collide i =
     (i ≤ length ids) × (i-end ≡ length ids) × (length words ≡ length words₀) × (length collide ≡ length collide₀)
-    × (stores words collide ≡ markAll (position level size) (stores words₀ collide₀) (take i ids))
+    × (markStores words collide ≡ markAll (position level size) (markStores words₀ collide₀) (take i ids))
 
 abbrev μ-loop : tie.MeasureT-loop
 μ-loop level size ids words₀ collide₀ i₀ i-end words collide i = i-end - i

@@ -5,10 +5,10 @@ use native.Mathlib.Omega.{arith}
 use borrow.Author.Needs.{needs}
 use lib.ListN.{length}
 use Rattle.laws.proofs.Words.{with-old}
-use Rattle.bitvector.proofs.Soundness.{passed, failed}
+use Rattle.laws.proofs.Cases.{passed, failed}
 use Rattle.mixer.specs.Position.{position}
 use Rattle.mixer.proofs.Positions.{position-lt}
-use Rattle.level.specs.Level.{stores}
+use Rattle.level.specs.Level.{markStores}
 use Rattle.level.proofs.Marking.{mark-none, mark-again, mark-first}
 use Rattle.level.proofs.mark_one.Statement.{statement}
 use Rattle.level.proofs.mark_one.Tie as tie
@@ -32,7 +32,7 @@ mark-one-spec =
     let bit = h .before .before .before .hashmod .ensures in
     let e = failed (h .before .has-bit .ensures) (h .if1 .taken) in
     let f = sym (c .before .before .before .before .before .before .before .add-bit .ensures .old) ∙ c .before .before .before .before .if2 .taken in
-    cc (mark-again (position _ _) (stores _ _) _ (rw bit at e) (rw bit at f), with-old _ _ f))
+    cc (mark-again (position _ _) (markStores _ _) _ (rw bit at e) (rw bit at f), with-old _ _ f))
     (λ c. ⊎-elim (λ w. ap length (w .6) ∙ w .2 .kept .0) (λ w. ap length (w .1)) (c .if1 .came))
     (λ c. search needs)
     (λ c.
@@ -41,8 +41,8 @@ mark-one-spec =
     (λ w.
     let e = failed (c .before .has-bit .ensures) (w .0 .taken) in
     let f = sym (w .2 .ensures .old) ∙ w .5 .left in
-    cc (mark-first (position _ _) (stores _ _) _ (rw bit at e) (rw bit at f)))
+    cc (mark-first (position _ _) (markStores _ _) _ (rw bit at e) (rw bit at f)))
     (λ w.
     let e = passed (c .before .has-bit .ensures) (w .0 .left) in
-    cc (mark-none (position _ _) (stores _ _) _ (rw bit at e)))
+    cc (mark-none (position _ _) (markStores _ _) _ (rw bit at e)))
     (c .if1 .came)))

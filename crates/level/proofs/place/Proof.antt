@@ -3,7 +3,7 @@ use mathlib.Core.Path.{sym}
 use borrow.Author.Needs.{needs}
 use lib.Seq.{length-take-le}
 use Rattle.mixer.proofs.Positions.{position-lt}
-use Rattle.level.specs.Level.{stores}
+use Rattle.level.specs.Level.{markStores}
 use Rattle.level.proofs.Placing.{placed}
 use Rattle.level.proofs.place.Statement.{statement}
 use Rattle.level.proofs.place.Tie as tie
@@ -22,7 +22,7 @@ place-spec =
     (λ c.
     let m = c .before .before .before .before .before .before .before .before .before .before .before .before in
     let s = m .before .before .before .before .before .before .before in
-    placed _ _ (λ id. position-lt (s .args .level) (s .args .size) id (s .pre .0 .positive)) (stores _ _)
+    placed _ _ (λ id. position-lt (s .args .level) (s .args .size) id (s .pre .0 .positive)) (markStores _ _)
     (record {
       room = record { own = s .pre .0 .own-room; other = s .pre .0 .collide-room };
       own-clear = s .pre .2;

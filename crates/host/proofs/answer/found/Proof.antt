@@ -1,8 +1,8 @@
 -- `host::answer::found` meets its contract. Assumes nothing.
 use mathlib.Core.Path.{sym, ap, _∙_}
 use borrow.Author.Needs.{needs}
-use Rattle.mphf.specs.declared.finding.Found.{Found}
-use Rattle.mphf.specs.Lookup.{answerOf}
+use Rattle.finding.specs.declared.Found.{Found}
+use Rattle.finding.specs.Find.{answerOf}
 use Rattle.host.specs.Numbers.{ofAnswer}
 use Rattle.host.proofs.answer.found.Statement.{statement}
 use Rattle.host.proofs.answer.found.Tie as tie

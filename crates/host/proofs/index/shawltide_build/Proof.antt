@@ -1,6 +1,6 @@
 -- `host::index::shawltide_build` meets its contract. Assumes nothing.
 use native.Mathlib.Omega.{arith}
-use Rattle.mphf.specs.Index.{stores}
+use Rattle.build.specs.Build.{stores}
 use Rattle.host.proofs.Flats.{build-short, build-asked}
 use borrow.Author.Needs.{needs}
 use Rattle.host.proofs.index.shawltide_build.Statement.{statement}
@@ -27,4 +27,4 @@ shawltide-build-spec =
     let a = c .before .before .before .before .before .before .before .before .before .before .before .before .before .before .before .before .before .before .before .before .before .before .before .before .before .before .before .before .before .args in
     let r = c .before .before .before .before .before .before .before .before .before .before .before .before .before .before .before .before .before .build .result in
     build-asked (a .gamma) (a .ids .now) (stores (a .words .now) (a .samples .now) (a .collide .now) (a .rest .now)) (a .out .now) (r .outcome) (r .head) _ (omega (arith, c .before .before .before .before .before .before .before .before .before .before .before .before .before .before .before .before .before .before .before .before .before .before .if1 .left)) (c .made .ensures)
-    (c .before .before .before .before .before .before .value .ensures) (c .before .before .before .before .before .before .before .before .before .before .before .before .before .before .before .before .before .build .ensures) (c .before .before .before .write .ensures)))
+    (c .before .before .before .before .before .before .value .ensures) (c .before .before .before .before .before .before .before .before .before .before .before .before .before .before .before .before .before .build .ensures) (c .before .before .before .write-out .ensures)))

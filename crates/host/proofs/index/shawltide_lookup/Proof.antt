@@ -2,9 +2,10 @@
 use mathlib.Core.Path.{sym, ap, _∙_}
 use native.Mathlib.Omega.{arith}
 use Prim.Native.Nat.{ℕ}
-use Rattle.mphf.specs.declared.fitting.Head.{Head}
-use Rattle.mphf.specs.declared.finding.Found.{Found}
-use Rattle.mphf.specs.Lookup.{answerOf, lookupCall}
+use Rattle.head.specs.declared.Head.{Head}
+use Rattle.finding.specs.declared.Found.{Found}
+use Rattle.finding.specs.Find.{answerOf}
+use Rattle.lookup.specs.Lookup.{lookupCall}
 use Rattle.host.specs.Flat.{seen, answerSeen}
 use Rattle.host.proofs.Flats.{lookup-short, lookup-unheaded, lookup-headed, place-written}
 use borrow.Author.Needs.{needs}

@@ -1,8 +1,8 @@
 -- `host::index::shawltide_rows` meets its contract. Assumes nothing.
 use mathlib.Core.Path.{ap, _∙_}
 use native.Mathlib.Omega.{arith}
-use Rattle.mphf.specs.declared.fitting.Head.{Head}
-use Rattle.mphf.specs.Rows.{rowsCall}
+use Rattle.head.specs.declared.Head.{Head}
+use Rattle.rows.specs.Rows.{rowsCall}
 use Rattle.host.proofs.Flats.{rows-unheaded, rows-headed}
 use borrow.Author.Needs.{needs}
 use Rattle.host.proofs.index.shawltide_rows.Statement.{statement}

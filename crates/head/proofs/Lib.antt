@@ -1,0 +1,3 @@
+pub mod Fits
+pub mod Indexes
+pub mod Written

@@ -1,0 +1,41 @@
+-- The head as numbers: what reading and writing them one by one comes to.
+use mathlib.Core.Path.{_≡_, sym, ap, _∙_}
+use mathlib.Core.List.{List, [], _∷_, _++_}
+use Prim.Native.Nat.{ℕ, suc, _+_, _≤_, _<_}
+use native.Mathlib.Omega.{arith}
+use lib.ListN.{length, getD, set, take, drop, length-drop}
+use lib.Seq.{take-suc, take-suc-set, take-length, getD-drop, paste, sets, sets-eq, drop-append-add, drop-drop}
+use Rattle.head.specs.declared.Head.{Head}
+use Rattle.laws.specs.Stores.{fronted}
+use Rattle.bounds.specs.Bounds.{headSizes}
+use Rattle.head.specs.Numbers.{headCounts, headNumbers, headOf, numbersOf}
+
+-- a further size is read
+pub read-more : (numbers sizes : List ℕ) (i : ℕ) → i < length sizes → headCounts + i < length numbers → take i sizes ≡ take i (drop headCounts numbers)
+    → take (suc i) (set sizes i (getD numbers (headCounts + i) 0)) ≡ take (suc i) (drop headCounts numbers)
+read-more numbers sizes i h k e =
+    take-suc-set sizes i (getD numbers (headCounts + i) 0) h
+    ∙ ap (λ (l : List ℕ). l ++ (getD numbers (headCounts + i) 0 ∷ [])) e
+    ∙ ap (λ (v : ℕ). take i (drop headCounts numbers) ++ (v ∷ [])) (sym (getD-drop headCounts numbers i 0))
+    ∙ sym (take-suc (drop headCounts numbers) i 0 (rw (length-drop headCounts numbers) (omega arith)))
+
+-- two lists of one length that agree so far are equal
+pub read-all : (numbers sizes : List ℕ) (n : ℕ) → length sizes ≡ n → length numbers ≡ headCounts + n → take n sizes ≡ take n (drop headCounts numbers) → sizes ≡ drop headCounts numbers
+read-all numbers sizes n l k e =
+    let m : length (drop headCounts numbers) ≡ n = length-drop headCounts numbers ∙ omega arith in
+    sym (take-length sizes) ∙ ap (λ (j : ℕ). take j sizes) l ∙ e ∙ ap (λ (j : ℕ). take j (drop headCounts numbers)) (sym m) ∙ take-length (drop headCounts numbers)
+
+-- with all of them the head is read
+pub head-read : (numbers sizes : List ℕ) → sizes ≡ drop headCounts numbers → _≡_ {A = Head} (record { count = getD numbers 0 0; levels = getD numbers 1 0; sizes = sizes }) (headOf numbers)
+head-read numbers sizes e = ap (λ (l : List ℕ). record { count = getD numbers 0 0; levels = getD numbers 1 0; sizes = l }) e
+
+-- the counts and all sizes stand at the front of a store that is long enough
+pub head-written : (count levels : ℕ) (sizes out : List ℕ) → length sizes ≡ headSizes → headNumbers ≤ length out
+    → paste (sets out 0 (count ∷ levels ∷ [])) headCounts sizes headSizes ≡ fronted (numbersOf (record { count = count; levels = levels; sizes = sizes })) out
+head-written count levels sizes out l h =
+    let front : List ℕ = count ∷ levels ∷ [] in
+    let e : sets out 0 front ≡ front ++ drop headCounts out = sets-eq front out 0 (omega arith) in
+    let t : take headSizes sizes ≡ sizes = ap (λ (n : ℕ). take n sizes) (sym l) ∙ take-length sizes in
+    let d : drop headNumbers (front ++ drop headCounts out) ≡ drop headNumbers out = drop-append-add front (drop headCounts out) headSizes ∙ drop-drop headSizes headCounts out in
+    let n : length (numbersOf (record { count = count; levels = levels; sizes = sizes })) ≡ headNumbers = omega arith in
+    rw (e, t, d) (ap (λ (k : ℕ). count ∷ levels ∷ (sizes ++ drop k out)) (sym n))

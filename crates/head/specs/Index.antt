@@ -1,0 +1,50 @@
+-- The index of a list of ids by the level rule, as its head and its stores hold it.
+use Prim.Native.Nat.{ℕ}
+use mathlib.Core.List.{List, [], _∷_}
+use lib.Ieee.{Float}
+use lib.ListN.{length}
+use Rattle.bounds.specs.Bounds.{headSizes}
+use Rattle.laws.specs.Counting.{blocks}
+use Rattle.laws.specs.Bits.{wordsFor, packed}
+use Rattle.laws.specs.Stores.{zeros, filled}
+use Rattle.mixer.specs.Position.{position}
+use Rattle.ranks.specs.Ranks.{samplesOf}
+use Rattle.rule.specs.Rule.{Rule, Room, span, bit, base}
+use Rattle.sizes.specs.Sizes.{sizeFor}
+use Rattle.head.specs.Layout.{samplesOfSize}
+use Rattle.head.specs.declared.Head.{Head}
+
+-- the rule of levels: the mixer's position, and the sizes of gamma
+abbrev pub ruleOf : Float → Rule
+ruleOf gamma = record { pos = position; size = sizeFor gamma }
+
+-- the room that stores of so many words and samples have
+abbrev pub roomOf : ℕ → ℕ → Room
+roomOf wordRoom sampleRoom = record { words = wordsFor; samples = samplesOfSize; wordRoom = wordRoom; sampleRoom = sampleRoom }
+
+module _ (rule : Rule) (ids : List ℕ) where
+  -- the words of level i: its bits, packed
+  abbrev pub wordsAt : ℕ → List ℕ
+  wordsAt i = packed (wordsFor (span rule ids i)) (bit rule ids i)
+
+  -- its samples, from its words and the number of bits set in all earlier levels
+  abbrev pub samplesAt : ℕ → List ℕ
+  samplesAt i = samplesOf (base (span rule ids) (bit rule ids) i) (wordsAt i)
+
+  -- the words, the samples and the sizes of the first n levels, one level after another
+  unfoldable pub indexWords : ℕ → List ℕ
+  indexWords n = blocks wordsAt n
+
+  unfoldable pub indexSamples : ℕ → List ℕ
+  indexSamples n = blocks samplesAt n
+
+  unfoldable pub indexSizes : ℕ → List ℕ
+  indexSizes n = blocks (λ i. span rule ids i ∷ []) n
+
+  -- the head of an index of n levels: unused sizes are 0
+  abbrev pub indexHead : ℕ → Head
+  indexHead n = record { count = length ids; levels = n; sizes = filled (indexSizes n) headSizes }
+
+-- the head of a refused build: all 0
+abbrev pub noHead : Head
+noHead = record { count = 0; levels = 0; sizes = zeros headSizes }

@@ -1,0 +1,6 @@
+-- What a user has to believe.
+pub mod Layout
+pub mod Index
+pub mod Numbers
+-- What only serves inner contracts.
+pub mod Fit

@@ -1,0 +1,33 @@
+-- `list_cases::compare` meets its contract: it takes at most as many cases as a list can have. Assumes nothing.
+use Prim.Native.Nat.{_-_}
+use borrow.Author.Needs.{needs}
+use Rattle.list_cases.proofs.compare.Statement.{statement}
+use Rattle.list_cases.proofs.compare.Tie as tie
+
+abbrev Inv-loop : tie.InvT-loop
+Inv-loop kind buffer₀ numbers₀ place₀ cases₀ buffer numbers place cases = Unit {0}
+
+abbrev μ-loop : tie.MeasureT-loop
+μ-loop kind buffer₀ numbers₀ place₀ cases₀ buffer numbers place cases = 1000000 - cases
+
+pub compare-spec : {M : Type 1} → statement M
+compare-spec =
+    tie.close
+    (tie.spec
+    Inv-loop
+    μ-loop
+    (λ c. search needs)
+    (λ c κs. search needs)
+    (λ c. search needs)
+    (λ c. search needs)
+    (λ c. search needs)
+    (λ c. search needs)
+    (λ c. search needs)
+    (λ c. search needs)
+    (λ c. search needs)
+    (λ c. search needs)
+    (λ c. search needs)
+    (λ c. search needs)
+    (λ c. search needs)
+    (λ c. search needs)
+    (λ c. search needs))

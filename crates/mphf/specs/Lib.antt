@@ -1,9 +1,0 @@
-pub mod Layout
-pub mod Fit
-pub mod Lookup
-pub mod Index
-pub mod Build
-pub mod Turn
-pub mod Run
-pub mod Rows
-pub mod Passes

@@ -1,0 +1,4 @@
+-- What a user has to believe.
+pub mod Rows
+-- What only serves inner contracts.
+pub mod Passes
