@@ -1,1 +1,2 @@
+-- What a user has to believe.
 pub mod Bounds

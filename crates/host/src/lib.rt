@@ -1,5 +1,5 @@
 // The calls for hosts in Rust and C. Every result is one number: a value, 2^64 - 1 for none, 2^64 - 1 - r for refusal r. A slice is a pointer and a length.
-pub mod answer;
+mod answer;
 mod index;
 mod set;
 

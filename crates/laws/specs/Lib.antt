@@ -1,4 +1,6 @@
+-- What a user has to believe: the words that the other definitions are written in.
 pub mod Bits
 pub mod Counting
-pub mod Tables
 pub mod Stores
+-- What worked examples are written with.
+pub mod Tables

@@ -1,15 +1,19 @@
 // The cases of a list, one after the other, up to the check that ends it.
 use cases::Kind;
 use cases::holds;
+use libc::STDOUT_FILENO;
+use lists::file::Cursor;
 use lists::file::Line;
 use lists::file::Next;
-use lists::file::Place;
 use lists::file::next_byte;
 use lists::file::read_line;
 use lists::line::MOST;
+use lists::line::copy;
+use trial::stores::first;
+use trial::stores::first_mut;
 
 // How far a list is equal.
-pub enum Outcome {
+pub enum Compared {
     Equal(u64),
     Differs(u64),
     Broken(u64),
@@ -17,7 +21,7 @@ pub enum Outcome {
 
 // What one line of a list is.
 enum Step {
-    Equal(Place),
+    Equal(Cursor),
     Differs,
     Broken,
     End,
@@ -29,29 +33,36 @@ const MOST_CASES: u64 = 1_000_000;
 // How far the list that starts here is equal.
 pub fn compare(
     kind: Kind,
-    start: Place,
+    start: Cursor,
     buffer: &mut [u8; 4096],
     numbers: &mut [u64; MOST],
-) -> Outcome {
+    store: &mut [u64],
+) -> Compared {
     let mut place = start;
     let mut cases: u64 = 0;
     while cases < MOST_CASES {
-        let step = next_case(kind, place, buffer, numbers);
+        let step = next_case(kind, place, buffer, numbers, store);
         match step {
             Step::Equal(next) => {
                 place = next;
                 cases += 1;
             }
-            Step::Differs => return Outcome::Differs(cases + 1),
-            Step::Broken => return Outcome::Broken(cases + 1),
-            Step::End => return Outcome::Equal(cases),
+            Step::Differs => return Compared::Differs(cases + 1),
+            Step::Broken => return Compared::Broken(cases + 1),
+            Step::End => return Compared::Equal(cases),
         }
     }
-    Outcome::Broken(cases)
+    Compared::Broken(cases)
 }
 
 // The next line: a case, or the one number that ends the list, which is the check of all bytes before it.
-fn next_case(kind: Kind, place: Place, buffer: &mut [u8; 4096], numbers: &mut [u64; MOST]) -> Step {
+fn next_case(
+    kind: Kind,
+    place: Cursor,
+    buffer: &mut [u8; 4096],
+    numbers: &mut [u64; MOST],
+    store: &mut [u64],
+) -> Step {
     let line = read_line(place, buffer, numbers);
     let Line::Numbers(count, next) = line else {
         return Step::Broken;
@@ -63,7 +74,7 @@ fn next_case(kind: Kind, place: Place, buffer: &mut [u8; 4096], numbers: &mut [u
             Step::Broken
         };
     }
-    if is_equal(kind, count, numbers) {
+    if is_equal(kind, count, numbers, store) {
         Step::Equal(next)
     } else {
         Step::Differs
@@ -71,7 +82,7 @@ fn next_case(kind: Kind, place: Place, buffer: &mut [u8; 4096], numbers: &mut [u
 }
 
 // What comes after the check: nothing may.
-fn end(place: Place, buffer: &mut [u8; 4096]) -> Step {
+fn end(place: Cursor, buffer: &mut [u8; 4096]) -> Step {
     let next = next_byte(place, buffer);
     if let Next::End = next {
         Step::End
@@ -80,8 +91,34 @@ fn end(place: Place, buffer: &mut [u8; 4096]) -> Step {
     }
 }
 
-// Whether a case holds, where the calls write to a copy of its line.
-fn is_equal(kind: Kind, count: usize, numbers: &[u64; MOST]) -> bool {
-    let mut store = *numbers;
-    holds(kind, count, numbers, &mut store)
+// Whether a case holds. The calls write to a copy of its line, and what they are lent goes on past the line: they may not touch it.
+fn is_equal(kind: Kind, count: usize, numbers: &[u64; MOST], store: &mut [u64]) -> bool {
+    let n = std::num::wrapping_add_usize(count, PAST);
+    let line = first(numbers, n);
+    let own = first_mut(store, n);
+    copy(line, own);
+    holds(kind, count, line, own)
+}
+
+// How many numbers are lent past a line.
+const PAST: usize = 8;
+
+// A line: the name of the list, and how far it is equal.
+pub fn report(name: &[u8], outcome: Compared) {
+    io::write_all(STDOUT_FILENO, name);
+    match outcome {
+        Compared::Equal(cases) => say(b" ", cases, b" equal\n"),
+        Compared::Differs(case) => say(b" case ", case, b" differs\n"),
+        Compared::Broken(case) => say(
+            b" line ",
+            case,
+            b" cannot be read, or the list was changed\n",
+        ),
+    }
+}
+
+fn say(before: &[u8], n: u64, after: &[u8]) {
+    io::write_all(STDOUT_FILENO, before);
+    io::print_decimal(STDOUT_FILENO, n);
+    io::write_all(STDOUT_FILENO, after);
 }

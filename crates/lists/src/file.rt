@@ -4,7 +4,7 @@ use mixer::mix;
 use mixer::wrapping_mul;
 
 // Where reading stands: the file, the bytes of the buffer that are still to be read, and the check of all bytes before.
-pub struct Place {
+pub struct Cursor {
     pub file: i32,
     pub at: usize,
     pub end: usize,
@@ -12,13 +12,13 @@ pub struct Place {
 }
 
 pub enum Next {
-    Byte(u8, Place),
+    Byte(u8, Cursor),
     End,
 }
 
 pub enum Line {
     // So many numbers, at the front of the store, and the place after them.
-    Numbers(usize, Place),
+    Numbers(usize, Cursor),
     Broken,
 }
 
@@ -30,8 +30,8 @@ pub fn numbers() -> [u64; MOST] {
     [0; MOST]
 }
 
-pub fn start(file: i32) -> Place {
-    Place {
+pub fn start(file: i32) -> Cursor {
+    Cursor {
         file,
         at: 0,
         end: 0,
@@ -40,7 +40,7 @@ pub fn start(file: i32) -> Place {
 }
 
 // The next byte of the file.
-pub fn next_byte(place: Place, buffer: &mut [u8; 4096]) -> Next {
+pub fn next_byte(place: Cursor, buffer: &mut [u8; 4096]) -> Next {
     let at = place.at;
     if at < place.end {
         if at < 4096 {
@@ -56,8 +56,8 @@ pub fn next_byte(place: Place, buffer: &mut [u8; 4096]) -> Next {
 }
 
 // The byte, and the place past it.
-fn past(place: Place, byte: u8, at: usize, end: usize) -> Next {
-    let next = Place {
+fn past(place: Cursor, byte: u8, at: usize, end: usize) -> Next {
+    let next = Cursor {
         file: place.file,
         at,
         end,
@@ -67,7 +67,7 @@ fn past(place: Place, byte: u8, at: usize, end: usize) -> Next {
 }
 
 // The next line's numbers.
-pub fn read_line(place: Place, buffer: &mut [u8; 4096], numbers: &mut [u64; MOST]) -> Line {
+pub fn read_line(place: Cursor, buffer: &mut [u8; 4096], numbers: &mut [u64; MOST]) -> Line {
     let mut next = place;
     let mut count: usize = 0;
     let mut value: u64 = 0;

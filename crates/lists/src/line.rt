@@ -46,3 +46,10 @@ pub fn after(store: &mut [u64], at: usize) -> &mut [u64] {
     }
     store
 }
+
+// Makes a store a copy of the line.
+pub fn copy(line: &[u64], store: &mut [u64]) {
+    for i in 0..store.len() {
+        store[i] = number(line, i);
+    }
+}

@@ -5,6 +5,7 @@ use mathlib.Core.List.{List}
 use Prim.Native.Nat.{ℕ, suc, _+_, _-_, _*_, _/_, _%_, _≤_, _<_}
 use native.Mathlib.Omega.{arith}
 use lib.ListN.{length, getD}
+use Rattle.bounds.specs.Bounds.{sampleBits}
 use Rattle.laws.specs.Counting.{one, rank}
 use Rattle.laws.specs.Bits.{has}
 use Rattle.laws.proofs.Sums.{sum-split, rank-same, rank-none}
@@ -16,18 +17,18 @@ use Rattle.ranks.proofs.Samples.{sample-at}
 
 module _ (span : ℕ → ℕ) (bits : ℕ → ℕ → Bool) (i : ℕ) (ws : List ℕ) where
   -- the rule's sample at position / 512 and the ones from there on are the rule's row
-  pub row-from-sample : (p : ℕ) → ((q : ℕ) → q < p → bits i q ≡ has ws q) → sample span bits i (p / 512) + onesFrom ws p ≡ rowAt span bits i p
+  pub row-from-sample : (p : ℕ) → ((q : ℕ) → q < p → bits i q ≡ has ws q) → sample span bits i (p / sampleBits) + onesFrom ws p ≡ rowAt span bits i p
   unfolding onesFrom
   row-from-sample p e =
-      ap (λ (n : ℕ). sample span bits i (p / 512) + n) (rank-same _ _ (p % 512) (λ k h. sym (e (512 * (p / 512) + k) (omega arith))))
+      ap (λ (n : ℕ). sample span bits i (p / sampleBits) + n) (rank-same _ _ (p % sampleBits) (λ k h. sym (e (sampleBits * (p / sampleBits) + k) (omega arith))))
       ∙ sym (row-by-sample span bits i p)
 
   -- sample j of the words is the rule's
-  pub sample-by-rule : (j : ℕ) → j < samplesFor (length ws) → ((q : ℕ) → q < 512 * j → bits i q ≡ has ws q)
+  pub sample-by-rule : (j : ℕ) → j < samplesFor (length ws) → ((q : ℕ) → q < sampleBits * j → bits i q ≡ has ws q)
       → getD (samplesOf (base span bits i) ws) j 0 ≡ sample span bits i j
   sample-by-rule j h e =
       sample-at (base span bits i) ws (samplesFor (length ws)) j h
-      ∙ ap (λ (n : ℕ). base span bits i + n) (sym (rank-same (bits i) (has ws) (512 * j) e))
+      ∙ ap (λ (n : ℕ). base span bits i + n) (sym (rank-same (bits i) (has ws) (sampleBits * j) e))
 
   -- the set bits before the next level, where no bit past the level's size is set
   pub next-base : span i ≤ 64 * length ws → ((q : ℕ) → q < span i → bits i q ≡ has ws q)

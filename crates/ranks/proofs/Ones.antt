@@ -6,6 +6,7 @@ use native.Mathlib.Nat.{div-add-mod}
 use native.Mathlib.Omega.{arith}
 use lib.Count.{ones}
 use lib.ListN.{length, getD}
+use Rattle.bounds.specs.Bounds.{sampleBits}
 use Rattle.laws.specs.Counting.{one, sum, rank}
 use Rattle.laws.specs.Bits.{has, Words}
 use Rattle.laws.proofs.Sums.{sum-split, rank-le}
@@ -23,17 +24,17 @@ unfolding setBits
 set-bits-le ws = rank-le (has ws) (64 * length ws)
 
 module _ (ws : List ℕ) (p : ℕ) where
-  pub ones-from-le : onesFrom ws p ≤ p % 512
+  pub ones-from-le : onesFrom ws p ≤ p % sampleBits
   unfolding onesFrom
-  ones-from-le = rank-le (λ k. has ws (512 * (p / 512) + k)) (p % 512)
+  ones-from-le = rank-le (λ k. has ws (sampleBits * (p / sampleBits) + k)) (p % sampleBits)
 
   -- the set bits below a position are those before its sample's first bit and those from there on
-  pub rank-from : rank (has ws) p ≡ rank (has ws) (512 * (p / 512)) + onesFrom ws p
+  pub rank-from : rank (has ws) p ≡ rank (has ws) (sampleBits * (p / sampleBits)) + onesFrom ws p
   unfolding onesFrom
-  rank-from = ap (rank (has ws)) (sym (div-add-mod p 512)) ∙ sum-split (λ q. one (has ws q)) (512 * (p / 512)) (p % 512)
+  rank-from = ap (rank (has ws)) (sym (div-add-mod p sampleBits)) ∙ sum-split (λ q. one (has ws q)) (sampleBits * (p / sampleBits)) (p % sampleBits)
 
   -- so a count of the ones from the sample's first word, s, up to the position is right
-  pub counted-from : (s n : ℕ) → 64 * s ≡ 512 * (p / 512) → rank (has ws) (64 * s) + n ≡ rank (has ws) p → n ≡ onesFrom ws p
+  pub counted-from : (s n : ℕ) → 64 * s ≡ sampleBits * (p / sampleBits) → rank (has ws) (64 * s) + n ≡ rank (has ws) p → n ≡ onesFrom ws p
   counted-from s n h e = omega (arith, ap (rank (has ws)) h, rank-from)
 
   -- A count that has come to the position's word, i, comes to the position by the ones below it there: a shift to the top of the word keeps just these.

@@ -7,6 +7,7 @@ use native.Mathlib.Omega.{arith}
 use lib.Dec.{lit<}
 use lib.ListN.{length, getD, take, drop, set, length-append, length-drop}
 use lib.Seq.{drop-cons, set-at, take-at, drop-at}
+use Rattle.bounds.specs.Bounds.{sampleBits}
 use Rattle.laws.specs.Counting.{rank}
 use Rattle.laws.specs.Bits.{has}
 use Rattle.laws.proofs.Sums.{rank-same, sum-ones}
@@ -24,14 +25,14 @@ module _ (before : ℕ) (ws : List ℕ) where
   length-samples = length-first (samplesFor (length ws))
 
   -- sample j
-  pub sample-at : (n j : ℕ) → j < n → getD (firstSamples before ws n) j 0 ≡ before + rank (has ws) (512 * j)
+  pub sample-at : (n j : ℕ) → j < n → getD (firstSamples before ws n) j 0 ≡ before + rank (has ws) (sampleBits * j)
   unfolding firstSamples
   sample-at n j l =
-      rw (sum-ones j, add-zero j) at (blocks-at (λ j. (before + rank (has ws) (512 * j)) ∷ []) (λ j. 1) (λ j. refl) n j 0 l (lit< tt))
+      rw (sum-ones j, add-zero j) at (blocks-at (λ j. (before + rank (has ws) (sampleBits * j)) ∷ []) (λ j. 1) (λ j. refl) n j 0 l (lit< tt))
 
   -- a position's sample and the ones from there on are the set bits before it, in all earlier levels and in its own
-  pub rank-by-sample : (p : ℕ) → p < 64 * length ws → getD (samplesOf before ws) (p / 512) 0 + onesFrom ws p ≡ before + rank (has ws) p
-  rank-by-sample p h = omega (arith, sample-at (samplesFor (length ws)) (p / 512) (omega arith), rank-from ws p)
+  pub rank-by-sample : (p : ℕ) → p < 64 * length ws → getD (samplesOf before ws) (p / sampleBits) 0 + onesFrom ws p ≡ before + rank (has ws) p
+  rank-by-sample p h = omega (arith, sample-at (samplesFor (length ws)) (p / sampleBits) (omega arith), rank-from ws p)
 
 -- ---- from the words' bits alone
 
@@ -41,7 +42,7 @@ pub samples-by-bits : (before : ℕ) (us vs : List ℕ) → length us ≡ length
 unfolding firstSamples
 samples-by-bits before us vs l e =
     ap (λ (n : ℕ). firstSamples before us (samplesFor n)) l
-    ∙ blocks-same _ _ (samplesFor (length vs)) (λ j h. ap (λ (n : ℕ). (before + n) ∷ []) (rank-same _ _ (512 * j) (λ b m. e b (omega arith))))
+    ∙ blocks-same _ _ (samplesFor (length vs)) (λ j h. ap (λ (n : ℕ). (before + n) ∷ []) (rank-same _ _ (sampleBits * j) (λ b m. e b (omega arith))))
 
 module _ (before : ℕ) (ws store : List ℕ) where
   -- the level's part of the store is its samples, whatever the store held
@@ -68,7 +69,7 @@ module _ (before : ℕ) (ws store : List ℕ) where
   length-sampled i h e = rw e (simp (length-append, length-drop, length-first) (omega arith))
 
   -- a word at which sample j starts
-  pub starts-sample : (i j v : ℕ) → 64 * i ≡ 512 * j → j < length store → v ≡ before + rank (has ws) (64 * i) → {now : List ℕ} → now ≡ sampledTo i
+  pub starts-sample : (i j v : ℕ) → 64 * i ≡ sampleBits * j → j < length store → v ≡ before + rank (has ws) (64 * i) → {now : List ℕ} → now ≡ sampledTo i
       → set now j v ≡ sampledTo (i + 1)
   unfolding firstSamples
   starts-sample i j v h l e q =

@@ -1,9 +1,8 @@
 // Answers of the Rust, replayed: each list of data/ holds cases of one kind, what was asked and what boomphf answered, and the proved functions must answer the
 // same. One line is written for each kind: how many cases are equal, or the first that is not.
 use cases::Kind;
-use libc::STDOUT_FILENO;
-use list_cases::Outcome;
 use list_cases::compare;
+use list_cases::report;
 use lists::file::numbers;
 use lists::file::start;
 
@@ -38,27 +37,9 @@ fn replay(name: &[u8], kind: Kind) {
         return;
     }
     let mut buffer = io::buffer();
-    let mut numbers = numbers();
-    let outcome = compare(kind, start(file), &mut buffer, &mut numbers);
+    let mut line = numbers();
+    let mut copy = numbers();
+    let outcome = compare(kind, start(file), &mut buffer, &mut line, &mut copy);
     libc::close(file);
     report(name, outcome);
-}
-
-fn report(name: &[u8], outcome: Outcome) {
-    io::write_all(STDOUT_FILENO, name);
-    match outcome {
-        Outcome::Equal(cases) => say(b" ", cases, b" equal\n"),
-        Outcome::Differs(case) => say(b" case ", case, b" differs\n"),
-        Outcome::Broken(case) => say(
-            b" line ",
-            case,
-            b" cannot be read, or the list was changed\n",
-        ),
-    }
-}
-
-fn say(before: &[u8], n: u64, after: &[u8]) {
-    io::write_all(STDOUT_FILENO, before);
-    io::print_decimal(STDOUT_FILENO, n);
-    io::write_all(STDOUT_FILENO, after);
 }

@@ -5,6 +5,7 @@ use mathlib.Core.Option.{Option, none, some}
 use Prim.Native.Nat.{ℕ, zero, suc, _+_, _*_, _/_, _%_, _≤_, _<_}
 use native.Mathlib.Nat.{div-add-mod}
 use native.Mathlib.Omega.{arith}
+use Rattle.bounds.specs.Bounds.{sampleBits}
 use Rattle.laws.specs.Counting.{one, rank}
 use Rattle.laws.proofs.Cases.{Tri, lt, eq, gt, tri}
 use Rattle.laws.proofs.Sums.{sum-same, sum-mono, sum-split, rank-same, rank-lt}
@@ -12,10 +13,10 @@ use Rattle.rule.specs.Rule.{ones, base, rowAt, sample, RowPlace, first, 
 
 -- a row is the sample at position / 512 and the ones from there on
 pub row-by-sample : (span : ℕ → ℕ) (bits : ℕ → ℕ → Bool) (i p : ℕ)
-    → rowAt span bits i p ≡ sample span bits i (p / 512) + rank (λ q. bits i (512 * (p / 512) + q)) (p % 512)
+    → rowAt span bits i p ≡ sample span bits i (p / sampleBits) + rank (λ q. bits i (sampleBits * (p / sampleBits) + q)) (p % sampleBits)
 row-by-sample span bits i p =
-    let e : rank (bits i) (512 * (p / 512) + p % 512) ≡ rank (bits i) p = ap (rank (bits i)) (div-add-mod p 512) in
-    omega (arith, sum-split (λ q. one (bits i q)) (512 * (p / 512)) (p % 512))
+    let e : rank (bits i) (sampleBits * (p / sampleBits) + p % sampleBits) ≡ rank (bits i) p = ap (rank (bits i)) (div-add-mod p sampleBits) in
+    omega (arith, sum-split (λ q. one (bits i q)) (sampleBits * (p / sampleBits)) (p % sampleBits))
 
 -- a row that is found is that of a place
 pub row-found : (o : Option RowPlace) (k : ℕ) → rowOf o ≡ some k → (u : RowPlace) × (o ≡ some u) × (u .row ≡ k)

@@ -1,2 +1,3 @@
+-- What a user has to believe.
 pub mod Rule
 pub mod Demand

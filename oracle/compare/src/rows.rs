@@ -26,7 +26,7 @@ pub fn write(file: &str, gamma: &str) -> Result<(), Box<dyn Error>> {
     Ok(out.flush()?)
 }
 
-/// The bounds of document 01. The Rust panics on gammas that are not above the lower one, and on some far above the upper.
+/// The bounds of `docs/REFERENCE.md`. The Rust panics on gammas that are not above the lower one, and on some far above the upper.
 fn gamma_of(text: &str) -> Result<f64, Box<dyn Error>> {
     let gamma: f64 = text.parse().map_err(|error| format!("gamma {text}: {error}"))?;
     if gamma > 1.01 && gamma <= 16.0 {

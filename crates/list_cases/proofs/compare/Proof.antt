@@ -1,14 +1,16 @@
 -- `list_cases::compare` meets its contract: it takes at most as many cases as a list can have. Assumes nothing.
+use mathlib.Core.Path.{_≡_}
 use Prim.Native.Nat.{_-_}
+use lib.ListN.{length}
 use borrow.Author.Needs.{needs}
 use Rattle.list_cases.proofs.compare.Statement.{statement}
 use Rattle.list_cases.proofs.compare.Tie as tie
 
 abbrev Inv-loop : tie.InvT-loop
-Inv-loop kind buffer₀ numbers₀ place₀ cases₀ buffer numbers place cases = Unit {0}
+Inv-loop kind buffer₀ numbers₀ store₀ place₀ cases₀ buffer numbers store place cases = length store ≡ length store₀
 
 abbrev μ-loop : tie.MeasureT-loop
-μ-loop kind buffer₀ numbers₀ place₀ cases₀ buffer numbers place cases = 1000000 - cases
+μ-loop kind buffer₀ numbers₀ store₀ place₀ cases₀ buffer numbers store place cases = 1000000 - cases
 
 pub compare-spec : {M : Type 1} → statement M
 compare-spec =
@@ -18,6 +20,10 @@ compare-spec =
     μ-loop
     (λ c. search needs)
     (λ c κs. search needs)
+    (λ c. search needs)
+    (λ c. search needs)
+    (λ c. search needs)
+    (λ c. search needs)
     (λ c. search needs)
     (λ c. search needs)
     (λ c. search needs)

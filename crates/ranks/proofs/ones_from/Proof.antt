@@ -3,6 +3,7 @@ use mathlib.Core.Path.{_≡_, ap, _∙_}
 use Prim.Native.Nat.{ℕ, _+_, _*_, _-_, _/_, _≤_}
 use native.Mathlib.Omega.{arith}
 use lib.Count.{ones-le}
+use Rattle.bounds.specs.Bounds.{sampleBits}
 use Rattle.laws.specs.Counting.{rank}
 use Rattle.laws.specs.Bits.{has}
 use Rattle.laws.proofs.Sums.{rank-le}
@@ -13,7 +14,7 @@ use Rattle.ranks.proofs.ones_from.Tie as tie
 
 abbrev Inv-loop : tie.InvT-loop
 Inv-loop words position at first ones₀ i₀ ones i =
-    (64 * first ≡ 512 * (position / 512)) × (i ≤ at) × (rank (has words) (64 * first) + ones ≡ rank (has words) (64 * i))
+    (64 * first ≡ sampleBits * (position / sampleBits)) × (i ≤ at) × (rank (has words) (64 * first) + ones ≡ rank (has words) (64 * i))
 
 abbrev μ-loop : tie.MeasureT-loop
 μ-loop words position at first ones₀ i₀ ones i = at - i
