@@ -1,9 +1,8 @@
 -- The checks of a build, and what it leaves with and without a run. Assumes nothing.
-use mathlib.Core.Path.{_≡_, refl, sym, ap, subst, _∙_}
+use mathlib.Core.Path.{_≡_, refl, ap, subst, _∙_}
 use mathlib.Core.Bool.{Bool, true, false}
 use mathlib.Core.List.{List, _++_}
 use Prim.Native.Nat.{ℕ, _≤_, _<_}
-use lib.Dec.{leb}
 use lib.Ieee.{Float}
 use lib.ListN.{length, take, drop, replicate, length-append, length-drop, length-replicate}
 use lib.Seq.{take-at}
@@ -22,11 +21,13 @@ use Rattle.laws.specs.Stores.{fronted, zeros}
 use Rattle.rule.specs.Rule.{built, run}
 use Rattle.sizes.specs.Gamma.{aboveMin, aboveMax, Allowed}
 use Rattle.sizes.specs.Sizes.{sizeFor}
-use Rattle.build.specs.Build.{Stores, stores, buildAfter, buildChecks, ended, buildCall}
+use Rattle.levels.specs.Stores.{Stores, stores}
+use Rattle.build.specs.Build.{buildAfter, buildChecks, ended, buildCall}
 use Rattle.head.specs.Index.{noHead, ruleOf, roomOf}
-use Rattle.build.specs.Run.{runOf, prepared, Begun, Ran, afterRun, RunRefused}
-use Rattle.build.specs.declared.levels.Run.{Run}
-use Rattle.build.specs.declared.levels.Run.the-variants as R
+use Rattle.levels.specs.Run.{runOf, Begun, Ran}
+use Rattle.build.specs.Ending.{prepared, afterRun, RunRefused}
+use Rattle.levels.specs.declared.Run.{Run}
+use Rattle.levels.specs.declared.Run.the-variants as R
 use Rattle.head.specs.declared.Head.{Head}
 
 -- ---- the checks in their turn

@@ -1,3 +1,1 @@
-pub mod Turns
-pub mod Runs
 pub mod Builds

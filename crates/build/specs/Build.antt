@@ -16,18 +16,9 @@ use Rattle.refusal.specs.declared.Refusal.the-variants.{GammaTooSmall, GammaToo
 use Rattle.rule.specs.Rule.{RunEnd, built, noRoom, idsLeft, run}
 use Rattle.sizes.specs.Gamma.{aboveMin, aboveMax}
 use Rattle.sizes.specs.Sizes.{sizeFor}
+use Rattle.levels.specs.Stores.{Stores, stores}
 use Rattle.head.specs.Index.{ruleOf, roomOf, indexWords, indexSamples, indexHead, noHead}
 use Rattle.head.specs.declared.Head.{Head}
-
--- the four stores of a build: words and samples of the index, and the work stores
-pub record Stores : Type 0 where
-  pub words : List ℕ
-  pub samples : List ℕ
-  pub collide : List ℕ
-  pub rest : List ℕ
-
-abbrev pub stores : List ℕ → List ℕ → List ℕ → List ℕ → Stores
-stores words samples collide rest = record { words = words; samples = samples; collide = collide; rest = rest }
 
 -- what a build leaves: the head that it answers, and the stores
 pub record BuildAfter : Type 0 where

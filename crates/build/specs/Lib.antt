@@ -1,5 +1,4 @@
 -- What a user has to believe.
 pub mod Build
 -- What only serves inner contracts.
-pub mod Turn
-pub mod Run
+pub mod Ending

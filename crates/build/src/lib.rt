@@ -6,19 +6,18 @@ ghost use lib.ListN.{length};
 ghost use Rattle.laws.specs.Stores.{fronted};
 ghost use Rattle.refusal.specs.declared.Made.the-variants.{Refused};
 ghost use Rattle.head.specs.Index.{noHead};
-ghost use Rattle.build.specs.Build.{stores, builtOf, buildChecks, buildCall};
-ghost use Rattle.build.specs.Run.{prepared, afterRun, RunRefused};
-use crate::levels::Run;
-use crate::levels::build_levels;
+ghost use Rattle.levels.specs.Stores.{stores};
+ghost use Rattle.build.specs.Build.{builtOf, buildChecks, buildCall};
+ghost use Rattle.build.specs.Ending.{prepared, afterRun, RunRefused};
 use bounds::HEAD_SIZES;
 use bounds::MAX_IDS;
 use head::Head;
+use levels::Run;
+use levels::build_levels;
 use refusal::Made;
 use refusal::Refusal;
 use words::fill;
 use words::u64s;
-
-mod levels;
 
 // What a build answers: the outcome, and beside it the head, which is all 0 where the build is refused.
 pub struct Built {

@@ -11,7 +11,8 @@ use Rattle.mixer.specs.Position.{folded, scaled}
 use Rattle.ranks.specs.Ranks.{firstSamples, samplesOf, onesFrom}
 use Rattle.rule.specs.Rule.{remaining, runFrom}
 use Rattle.sizes.specs.Sizes.{rounded, wholeOf, sizeFor, samplesFor}
-use Rattle.build.specs.Build.{stores, buildChecks, buildCall}
+use Rattle.levels.specs.Stores.{stores}
+use Rattle.build.specs.Build.{buildChecks, buildCall}
 use Rattle.laws.specs.Stores.{zeros}
 use Rattle.finding.specs.Find.{Answer, found, nothing, refused, rowAnswer}
 use Rattle.demands.specs.Inputs.{oneAndHalf, two}

@@ -24,7 +24,8 @@ use Rattle.laws.specs.Bits.{has, bitAt, packed}
 use Rattle.laws.proofs.Counts.{perm-same}
 use Rattle.mixer.specs.Mixer.{mixed}
 use Rattle.mixer.specs.Position.{position}
-use Rattle.build.specs.Build.{BuildEnd, builtOf, refusedRun, buildChecks, buildCall, Stores, stores}
+use Rattle.build.specs.Build.{BuildEnd, builtOf, refusedRun, buildChecks, buildCall}
+use Rattle.levels.specs.Stores.{Stores, stores}
 use Rattle.laws.specs.Stores.{zeros}
 use Rattle.head.specs.Index.{ruleOf, indexWords, indexSamples, indexSizes}
 use Rattle.head.specs.Layout.{fit}

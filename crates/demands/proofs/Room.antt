@@ -16,7 +16,8 @@ use Rattle.laws.specs.Bits.{wordsFor}
 use Rattle.laws.specs.Counting.{sum}
 use Rattle.laws.proofs.Cases.{Tri, lt, eq, gt, tri}
 use Rattle.laws.proofs.Counts.{empty}
-use Rattle.build.specs.Build.{BuildEnd, cleared, ended, buildCall, Stores}
+use Rattle.build.specs.Build.{BuildEnd, cleared, ended, buildCall}
+use Rattle.levels.specs.Stores.{Stores}
 use Rattle.head.specs.Index.{noHead, ruleOf}
 use Rattle.head.specs.Layout.{samplesOfSize}
 use Rattle.build.proofs.Builds.{checked, passed}

@@ -14,7 +14,8 @@ use Rattle.refusal.specs.declared.Made.the-variants.{Done}
 use Rattle.bounds.specs.Bounds.{maxIds, levelLimit}
 use Rattle.laws.specs.Counting.{count, Same}
 use Rattle.laws.specs.Bits.{wordsFor}
-use Rattle.build.specs.Build.{BuildEnd, refusedRun, buildChecks, ended, buildCall, Stores, stores}
+use Rattle.build.specs.Build.{BuildEnd, refusedRun, buildChecks, ended, buildCall}
+use Rattle.levels.specs.Stores.{Stores, stores}
 use Rattle.head.specs.Index.{noHead, ruleOf, roomOf}
 use Rattle.head.specs.Layout.{samplesOfSize}
 use Rattle.finding.specs.Find.{Answer, found, nothing}

@@ -5,7 +5,7 @@ use Prim.Native.Nat.{ℕ, suc, _+_, _-_, _≤_, _<_}
 use native.Mathlib.Nat.{le-dest}
 use native.Mathlib.Omega.{arith}
 use lib.Ieee.{Float}
-use lib.ListN.{length, take, drop, set, length-append, length-replicate, replicate-append-replicate}
+use lib.ListN.{length, drop, set, length-append, length-replicate, replicate-append-replicate}
 use lib.Seq.{take-at, drop-at, set-append-seam}
 use Rattle.laws.specs.Bits.{wordsFor}
 use Rattle.laws.proofs.Sums.{sum-same, sum-ones}

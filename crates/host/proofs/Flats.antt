@@ -16,7 +16,8 @@ use Rattle.refusal.specs.declared.Made.{Made}
 use Rattle.refusal.specs.declared.Made.the-variants as M
 use Rattle.head.specs.declared.Head.{Head}
 use Rattle.head.specs.Numbers.{headNumbers, headOf, numbersOf}
-use Rattle.build.specs.Build.{Stores, BuildEnd, builtOf, buildCall}
+use Rattle.levels.specs.Stores.{Stores}
+use Rattle.build.specs.Build.{BuildEnd, builtOf, buildCall}
 use Rattle.finding.specs.declared.Place.{Place}
 use Rattle.finding.specs.declared.Found.{Found}
 use Rattle.finding.specs.declared.Found.the-variants as F
@@ -25,7 +26,7 @@ use Rattle.lookup.specs.Lookup.{lookupCall}
 use Rattle.rows.specs.Rows.{RowStores, rowStores, rowsCall}
 use Rattle.host.specs.Numbers.{refusedNumber, ofMade, valueIn}
 use Rattle.host.specs.Flat.{seen, outPlaces, placePlaces, answerSeen, flatLookup, flatRows, flatBuilt, endSeen, flatBuild}
-use Rattle.host.proofs.Answers.{made-number, made-seen}
+use Rattle.host.proofs.Answers.{made-seen}
 
 -- ---- a row list
 

@@ -6,7 +6,7 @@ ghost use lib.ListN.{length};
 ghost use Rattle.bounds.specs.Bounds.{headSizes};
 ghost use Rattle.laws.specs.Stores.{fronted};
 ghost use Rattle.head.specs.Numbers.{numbersOf};
-ghost use Rattle.build.specs.Build.{stores};
+ghost use Rattle.levels.specs.Stores.{stores};
 ghost use Rattle.rows.specs.Rows.{rowStores};
 ghost use Rattle.host.specs.Flat.{seen, flatBuilt, outPlaces, flatBuild, flatLookup, flatRows};
 use crate::answer;

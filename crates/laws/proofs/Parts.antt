@@ -1,11 +1,14 @@
--- Parts of a store: one that is returned, and one from a place on that is lent for writing; and places that all hold one number. Assumes nothing.
+-- Parts of a store: one that is returned, one from a place on that is lent for writing, and a list at its front; and places that all hold one number.
+-- Assumes nothing.
 use mathlib.Core.Path.{_≡_, sym, ap, _∙_}
-use mathlib.Core.List.{List, _++_, append-nil}
-use Prim.Native.Nat.{ℕ, _+_, _-_, _≤_}
+use mathlib.Core.List.{List, [], _∷_, _++_, append-nil}
+use Prim.Native.Nat.{ℕ, suc, _+_, _-_, _≤_, _<_}
 use native.Mathlib.Nat.{le-dest, le-refl}
+use native.Mathlib.Numerals.{add-one}
 use native.Mathlib.Omega.{arith}
-use lib.ListN.{length, take, drop, replicate, length-take, length-drop, drop-of-length-le, length-replicate, replicate-append-replicate}
-use lib.Seq.{take-all, take-at, drop-at}
+use lib.ListN.{length, getD, set, take, drop, replicate, length-append, length-take, length-drop, drop-of-length-le, length-replicate, replicate-append-replicate}
+use lib.Seq.{take-all, take-at, drop-at, drop-cons, set-append-seam, getD-append-add, getD-drop, append-snoc}
+use Rattle.laws.specs.Stores.{fronted}
 
 -- a part has as many places as it was asked for
 pub length-part : (at n : ℕ) (store : List ℕ) → at + n ≤ length store → {part : List ℕ} → part ≡ take n (drop at store) → length part ≡ n
@@ -17,6 +20,21 @@ pub lent-from : (f : List ℕ → List ℕ) (at : ℕ) (store : List ℕ) {part 
 lent-from f at store e =
     let l : length (drop at store) ≤ length store - at = rw length-drop (omega arith) in
     rw (e, take-all (length store - at) (drop at store) l, drop-of-length-le (drop at store) l, append-nil)
+
+-- ---- a list at the front of a store
+
+pub front-past : (front store : List ℕ) (i : ℕ) → length front ≤ i → getD (fronted front store) i 0 ≡ getD store i 0
+front-past front store i h =
+    let e : i ≡ length front + (i - length front) = omega arith in
+    ap (λ (k : ℕ). getD (fronted front store) k 0) e
+    ∙ getD-append-add front (drop (length front) store) (i - length front) 0
+    ∙ getD-drop (length front) store (i - length front) 0
+    ∙ ap (λ (k : ℕ). getD store k 0) (sym e)
+
+pub front-more : (front store : List ℕ) (x : ℕ) → length front < length store → set (fronted front store) (length front) x ≡ fronted (front ++ (x ∷ [])) store
+front-more front store x h =
+    rw (drop-cons store (length front) 0 h, set-append-seam front (getD store (length front) 0) (drop (suc (length front)) store) x, length-append, add-one)
+    (sym (append-snoc front x (drop (suc (length front)) store)))
 
 -- ---- places that all hold one number
 

@@ -1,22 +1,22 @@
 -- Filtering, bit by bit: of the positions that ids have, those that collide has leave the level; and the rest store as the loop compacts it. Assumes nothing.
-use mathlib.Core.Path.{_≡_, refl, sym, ap, _∙_}
+use mathlib.Core.Path.{_≡_, refl, sym, _∙_}
 use mathlib.Core.Bool.{Bool, true, false, not, _||_, _&&_, and-true, and-false}
 use mathlib.Core.List.{List, [], _∷_, _++_, append-nil}
 use mathlib.Core.Logic.{_≢_}
-use Prim.Native.Nat.{ℕ, suc, _+_, _-_, _/_, _≤_, _<_}
+use Prim.Native.Nat.{ℕ, _+_, _-_, _/_, _≤_, _<_}
 use native.Mathlib.Numerals.{add-one}
 use native.Mathlib.Decide.{ℕ-discrete}
 use native.Mathlib.Omega.{arith}
 use borrow.Author.Tests.{eq-eqb, ne-eqb}
 use lib.Dec.{eqb}
-use lib.ListN.{length, getD, set, take, drop, length-append, length-drop}
-use lib.Seq.{length-take-le, drop-cons, set-append-seam, getD-append-add, getD-drop, append-snoc}
+use lib.ListN.{length, getD, set, take, length-append, length-drop}
+use lib.Seq.{length-take-le}
 use Rattle.laws.specs.Counting.{hits, sift}
 use Rattle.laws.specs.Bits.{has, wordsFor, withoutBit}
 use Rattle.laws.proofs.Counts.{length-sift, tally-not, sift-take}
 use Rattle.laws.proofs.Words.{without-put}
 use Rattle.level.specs.Level.{goesOn, filterOne, filterAll, OneFiltered, Filtered, met}
-use Rattle.laws.specs.Stores.{fronted}
+use Rattle.laws.proofs.Parts.{front-past, front-more}
 use Rattle.level.proofs.Folds.{fold-next, fold-keeps}
 use Rattle.level.proofs.Few.{any-more}
 use Rattle.level.proofs.Kept.{Kept, kept-none, kept-more, kept-put, put-here, put-other}
@@ -73,21 +73,6 @@ module _ (g : ℕ → ℕ) (size : ℕ) (within : (id : ℕ) → g id < size) (c
       go true true false true = refl
       go true true true false = refl
       go true true false false = refl
-
--- ---- a list at the front of a store
-
-front-past : (front store : List ℕ) (i : ℕ) → length front ≤ i → getD (fronted front store) i 0 ≡ getD store i 0
-front-past front store i h =
-    let e : i ≡ length front + (i - length front) = omega arith in
-    ap (λ (k : ℕ). getD (fronted front store) k 0) e
-    ∙ getD-append-add front (drop (length front) store) (i - length front) 0
-    ∙ getD-drop (length front) store (i - length front) 0
-    ∙ ap (λ (k : ℕ). getD store k 0) (sym e)
-
-pub front-more : (front store : List ℕ) (x : ℕ) → length front < length store → set (fronted front store) (length front) x ≡ fronted (front ++ (x ∷ [])) store
-front-more front store x h =
-    rw (drop-cons store (length front) 0 h, set-append-seam front (getD store (length front) 0) (drop (suc (length front)) store) x, length-append, add-one)
-    (sym (append-snoc front x (drop (suc (length front)) store)))
 
 -- ---- the loop, after the first i ids of the rest store
 

@@ -1,5 +1,5 @@
 -- A hash is a word, its fold half a word, and a position lies below the size, whatever the level and the id. Assumes nothing.
-use Prim.Native.Nat.{ℕ, _*_, _/_, _%_, _^_, _<_}
+use Prim.Native.Nat.{ℕ, _/_, _%_, _^_, _<_}
 use native.Mathlib.Nat.{mod-lt, mul-lt-mul-of-pos-right, div-lt-iff-lt-mul, lt-of-le-of-lt}
 use native.Mathlib.Omega.{arith}
 use lib.Pow.{pow-pos, shr-le}

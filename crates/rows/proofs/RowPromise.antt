@@ -4,7 +4,6 @@ use mathlib.Core.Bool.{Bool, true, false, _&&_}
 use mathlib.Core.List.{List}
 use mathlib.Core.Option.{Option, some}
 use Prim.Native.Nat.{ℕ, _≤_, _<_}
-use native.Mathlib.Omega.{arith}
 use borrow.Author.Tests.{eqb-true, leb-true}
 use lib.Dec.{eqb, leb}
 use lib.ListN.{length, getD, drop, List·getD-append}
@@ -15,7 +14,6 @@ use Rattle.lookup.specs.Lookup.{lookupCall}
 use Rattle.rows.specs.Rows.{apart, listed, RowStores, rowsBy, rowsCall}
 use Rattle.finding.specs.Find.{rowIn}
 use Rattle.refusal.specs.Answers.{Outcome, refused, check}
-use Rattle.refusal.specs.Table.{numberOf}
 use Rattle.refusal.specs.declared.Refusal.{Refusal}
 use Rattle.refusal.specs.declared.Refusal.the-variants.{UnfitHead, ShortOutput, WrongIds}
 use Rattle.refusal.proofs.Apart.{not-none}

@@ -1,11 +1,8 @@
 -- `build::check` meets its contract. Assumes nothing.
 use mathlib.Core.Path.{_≡_, sym, _∙_}
 use mathlib.Core.Bool.{true, false}
-use Prim.Native.Nat.{_≤_}
-use native.Mathlib.Omega.{arith}
 use borrow.Author.Needs.{needs}
 use borrow.Author.Tests.{not-true, not-false}
-use Rattle.bounds.specs.Bounds.{maxBits}
 use Rattle.sizes.specs.Gamma.{aboveMin, aboveMax, Allowed}
 use Rattle.sizes.proofs.Sizes.{size-most}
 use Rattle.build.proofs.Builds.{too-small, too-large, too-many, rest-short, collide-short, checked}

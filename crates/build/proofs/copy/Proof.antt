@@ -8,7 +8,7 @@ use lib.ListN.{length, take, set, length-set}
 use lib.Seq.{take-suc, take-length, length-take-le}
 use borrow.Author.Needs.{needs}
 use Rattle.laws.specs.Stores.{fronted}
-use Rattle.level.proofs.Filtering.{front-more}
+use Rattle.laws.proofs.Parts.{front-more}
 use Rattle.build.proofs.copy.Statement.{statement}
 use Rattle.build.proofs.copy.Tie as tie
 

@@ -1,9 +1,8 @@
 -- `head::is_fit` meets its contract: the loop walks over the used sizes. Assumes nothing.
 use mathlib.Core.Path.{_≡_, sym}
-use Prim.Native.Nat.{ℕ, _-_, _≤_, _<_}
+use Prim.Native.Nat.{_-_, _≤_}
 use native.Mathlib.Omega.{arith}
 use borrow.Author.Needs.{needs}
-use Rattle.head.specs.Fit.{Fit}
 use Rattle.head.proofs.Fits.{fit-is, unfit, Walk, walk-none, walk-more}
 use Rattle.head.proofs.is_fit.Statement.{statement}
 use Rattle.head.proofs.is_fit.Tie as tie

@@ -1,5 +1,5 @@
 -- `lists::real::real` meets its contract: bits below those of infinity are no NaN's. Assumes nothing.
-use Prim.Native.Nat.{_≤_, _%_, _^_}
+use Prim.Native.Nat.{_%_, _^_}
 use native.Mathlib.Omega.{arith}
 use lib.Ieee.{binary64}
 use lib.Ieee.Bits.{nanBits-above}

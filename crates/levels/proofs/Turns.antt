@@ -22,12 +22,12 @@ use Rattle.rule.specs.Rule.{single}
 use Rattle.sizes.specs.Sizes.{samplesFor}
 use Rattle.sizes.proofs.Sizes.{size-least, size-most}
 use Rattle.head.specs.Layout.{samplesOfSize}
-use Rattle.build.specs.Build.{Stores, stores}
+use Rattle.levels.specs.Stores.{Stores, stores}
 use Rattle.laws.specs.Stores.{zeros, pasted}
-use Rattle.build.specs.Turn.{Placeable, PlacedAt, Sampleable, SampledAt, nextSize, TurnRoom, hasRoom, Turned, turned, nextProgress, nextStores, levelTurn}
-use Rattle.build.specs.declared.levels.Progress.{Progress}
-use Rattle.build.specs.declared.levels.Turn.{Turn}
-use Rattle.build.specs.declared.levels.Turn.the-variants as T
+use Rattle.levels.specs.Turn.{Placeable, PlacedAt, Sampleable, SampledAt, nextSize, TurnRoom, hasRoom, Turned, turned, nextProgress, nextStores, levelTurn}
+use Rattle.levels.specs.declared.Progress.{Progress}
+use Rattle.levels.specs.declared.Turn.{Turn}
+use Rattle.levels.specs.declared.Turn.the-variants as T
 
 -- all places from `at` on, as they are lent
 lent-all : (at : ℕ) (store : List ℕ) → take (length store - at) (drop at store) ≡ drop at store

@@ -1,8 +1,8 @@
--- `build::levels::place_at` meets its contract. Assumes nothing.
+-- `levels::place_at` meets its contract. Assumes nothing.
 use borrow.Author.Needs.{needs}
-use Rattle.build.proofs.Turns.{level-asks, words-placed, collide-again}
-use Rattle.build.proofs.levels.place_at.Statement.{statement}
-use Rattle.build.proofs.levels.place_at.Tie as tie
+use Rattle.levels.proofs.Turns.{level-asks, words-placed, collide-again}
+use Rattle.levels.proofs.place_at.Statement.{statement}
+use Rattle.levels.proofs.place_at.Tie as tie
 
 returns : tie.Need-returns
 returns c =

@@ -1,8 +1,8 @@
--- `build::levels::sample_at` meets its contract. Assumes nothing.
+-- `levels::sample_at` meets its contract. Assumes nothing.
 use borrow.Author.Needs.{needs}
-use Rattle.build.proofs.Turns.{ranks-ask, samples-placed}
-use Rattle.build.proofs.levels.sample_at.Statement.{statement}
-use Rattle.build.proofs.levels.sample_at.Tie as tie
+use Rattle.levels.proofs.Turns.{ranks-ask, samples-placed}
+use Rattle.levels.proofs.sample_at.Statement.{statement}
+use Rattle.levels.proofs.sample_at.Tie as tie
 
 pub sample-at-spec : {M : Type 1} → statement M
 sample-at-spec =

@@ -1,7 +1,7 @@
 -- One level of a build, on stores in which the levels before it lie: what it asks and what it leaves, by the stores alone.
 use mathlib.Core.Path.{_≡_}
 use mathlib.Core.Bool.{Bool, cond, _&&_}
-use mathlib.Core.List.{List, _++_}
+use mathlib.Core.List.{List}
 use Prim.Native.Nat.{ℕ, _+_, _-_, _≤_, _<_}
 use lib.Dec.{leb}
 use lib.Ieee.{Float}
@@ -15,10 +15,10 @@ use Rattle.sizes.specs.Gamma.{Allowed}
 use Rattle.sizes.specs.Sizes.{samplesFor}
 use Rattle.head.specs.Index.{ruleOf}
 use Rattle.head.specs.Layout.{samplesOfSize}
-use Rattle.build.specs.Build.{Stores, stores}
-use Rattle.build.specs.declared.levels.Progress.{Progress}
-use Rattle.build.specs.declared.levels.Turn.{Turn}
-use Rattle.build.specs.declared.levels.Turn.the-variants as T
+use Rattle.levels.specs.Stores.{Stores, stores}
+use Rattle.levels.specs.declared.Progress.{Progress}
+use Rattle.levels.specs.declared.Turn.{Turn}
+use Rattle.levels.specs.declared.Turn.the-variants as T
 
 -- ---- the ids of a level, placed in its words
 

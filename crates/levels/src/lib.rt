@@ -2,9 +2,9 @@
 ghost use mathlib.Core.Path.{_≡_};
 ghost use lib.ListN.{take, drop};
 ghost use Rattle.mixer.specs.Position.{position};
-ghost use Rattle.build.specs.Build.{stores};
-ghost use Rattle.build.specs.Run.{Begun, Ran};
-ghost use Rattle.build.specs.Turn.{Placeable, PlacedAt, Sampleable, SampledAt, TurnRoom, turned, levelTurn};
+ghost use Rattle.levels.specs.Stores.{stores};
+ghost use Rattle.levels.specs.Run.{Begun, Ran};
+ghost use Rattle.levels.specs.Turn.{Placeable, PlacedAt, Sampleable, SampledAt, TurnRoom, turned, levelTurn};
 use bounds::HEAD_SIZES;
 use bounds::LEVEL_LIMIT;
 use ranks::part;
@@ -28,14 +28,14 @@ enum Turn {
 }
 
 // How a run of levels ends: built with so many levels, no room for a level, or so many ids left after the last.
-pub(crate) enum Run {
+pub enum Run {
     Built(u64),
     NoRoom(u64),
     IdsLeft(u64),
 }
 
 // Builds one level after another for the first `count` ids of the rest store, and notes the levels' sizes.
-pub(crate) fn build_levels(
+pub fn build_levels(
     gamma: f64,
     count: usize,
     sizes: &mut [u64; HEAD_SIZES],

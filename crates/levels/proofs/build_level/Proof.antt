@@ -1,9 +1,9 @@
--- `build::levels::build_level` meets its contract. Assumes nothing.
+-- `levels::build_level` meets its contract. Assumes nothing.
 use native.Mathlib.Omega.{arith}
 use borrow.Author.Needs.{needs}
-use Rattle.build.proofs.Turns.{size-small, words-short, samples-short, placeable, sampleable, placed}
-use Rattle.build.proofs.levels.build_level.Statement.{statement}
-use Rattle.build.proofs.levels.build_level.Tie as tie
+use Rattle.levels.proofs.Turns.{size-small, words-short, samples-short, placeable, sampleable, placed}
+use Rattle.levels.proofs.build_level.Statement.{statement}
+use Rattle.levels.proofs.build_level.Tie as tie
 
 -- the places of the code, from the last back: the ids are placed, there is room, the level is measured, the entry
 abbrev at-placed : tie.After-sample-at → tie.After-place-at

@@ -1,15 +1,15 @@
 -- A run of levels in stores is the run of the level rule: what the stores hold before each level, and how the run ends. Assumes nothing.
 use mathlib.Core.Path.{_≡_, refl, sym, ap, ap₂, _∙_}
-use mathlib.Core.Bool.{Bool, true, false, cond}
-use mathlib.Core.List.{List, [], _∷_, _++_}
-use Prim.Native.Nat.{ℕ, suc, _+_, _-_, _*_, _≤_, _<_}
+use mathlib.Core.Bool.{true}
+use mathlib.Core.List.{List, []}
+use Prim.Native.Nat.{ℕ, suc, _+_, _-_, _≤_, _<_}
 use native.Mathlib.Nat.{sub-zero}
 use native.Mathlib.Omega.{arith}
 use lib.Ieee.{Float}
 use lib.ListN.{length, take, drop, set, length-append, length-take, length-drop, length-replicate}
 use lib.Seq.{take-at, length-take-le}
 use Rattle.bounds.specs.Bounds.{maxIds, levelLimit, headSizes}
-use Rattle.laws.specs.Bits.{has, wordsFor, packed}
+use Rattle.laws.specs.Bits.{wordsFor}
 use Rattle.laws.proofs.Packing.{packed-has}
 use Rattle.laws.proofs.Counts.{empty}
 use Rattle.laws.specs.Stores.{fronted, zeros, filled, pasted}
@@ -19,19 +19,19 @@ use Rattle.rule.specs.Rule.{Rule, Room, rest, remaining, span, bit, base, fits,
 use Rattle.rule.specs.Demand.{Reaches, none-left, out-of-room, at-limit}
 use Rattle.rule.proofs.Level.{unset-past, rest-length}
 use Rattle.rule.proofs.Levels.{remaining-fewer, all-accounted, spot-lt}
-use Rattle.rule.proofs.Run.{room-words, room-samples, reaches-0, reaches-next, ends-only}
+use Rattle.rule.proofs.Run.{room-words, room-samples, reaches-next, ends-only}
 use Rattle.sizes.specs.Gamma.{Allowed}
 use Rattle.sizes.specs.Sizes.{sizeFor}
 use Rattle.sizes.proofs.Sizes.{size-mono}
 use Rattle.head.specs.Layout.{samplesOfSize}
-use Rattle.build.specs.Build.{Stores, stores}
+use Rattle.levels.specs.Stores.{Stores, stores}
 use Rattle.head.specs.Index.{ruleOf, roomOf, wordsAt, samplesAt, indexWords, indexSamples, indexSizes}
-use Rattle.build.specs.Turn.{nextSize, TurnRoom, hasRoom, comers, spot, ownWords, turned, nextProgress, nextStores, levelTurn}
-use Rattle.build.specs.Run.{Begun, Ran}
-use Rattle.build.specs.declared.levels.Run.the-variants as R
-use Rattle.build.specs.declared.levels.Progress.{Progress}
-use Rattle.build.specs.declared.levels.Turn.the-variants as T
-use Rattle.build.proofs.Turns.{turn-placed, turn-full}
+use Rattle.levels.specs.Turn.{nextSize, TurnRoom, hasRoom, comers, spot, ownWords, turned, nextProgress, nextStores, levelTurn}
+use Rattle.levels.specs.Run.{Begun, Ran}
+use Rattle.levels.specs.declared.Run.the-variants as R
+use Rattle.levels.specs.declared.Progress.{Progress}
+use Rattle.levels.specs.declared.Turn.the-variants as T
+use Rattle.levels.proofs.Turns.{turn-placed, turn-full}
 use Rattle.head.proofs.Indexes.{rule-sound, length-filled, filled-past, filled-pasted, filled-set, length-words-at, length-samples-at, length-words, length-samples-to, length-sizes, words-next, samples-next, sizes-next}
 
 module _ (gamma : Float) (ids : List ℕ) (s₀ : Stores) where
