@@ -12,7 +12,7 @@ use Rattle.bitvector.specs.Calls.{roomy, sound, newCall, onesCall, isEmp
 use Rattle.bitvector.specs.Calls.{containsCall, insertCall, removeCall, insertAllCall, eqLeftCall, membersCall}
 
 -- an outcome is this refusal number and this value, and where the call writes a store, leaves this in it
-abbrev says : {Stores : Type 0} → Outcome Stores → ℕ → ℕ → Bool
+abbrev says : {After : Type 0} → Outcome After → ℕ → ℕ → Bool
 says x refusal value = eqb (x .refusal) refusal && eqb (x .value) value
 
 abbrev is : Outcome (List ℕ) → ℕ → ℕ → List ℕ → Bool

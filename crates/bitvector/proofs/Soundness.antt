@@ -23,7 +23,7 @@ use Rattle.bitvector.specs.Steps.{saidIf}
 use Rattle.bitvector.specs.Calls.{roomy, sound}
 
 -- an answer that is yes or no
-pub yes-said : {Stores : Type 0} {r : Said} (b : Bool) → r ≡ saidIf b → (s : Stores) → said r s ≡ answered (one b) s
+pub yes-said : {After : Type 0} {r : Said} (b : Bool) → r ≡ saidIf b → (s : After) → said r s ≡ answered (one b) s
 unfolding saidIf
 yes-said true e s = rw e
 yes-said false e s = rw e

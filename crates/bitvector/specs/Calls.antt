@@ -22,7 +22,7 @@ unfoldable pub sound : ℕ → List ℕ → Bool
 sound capacity ws = roomy capacity ws && eqb (rank (λ k. has ws (capacity + k)) (64 * wordsFor capacity - capacity)) 0
 
 -- the checks of a call on one bit, which leave these stores
-abbrev pub onBit : {Stores : Type 0} → ℕ → List ℕ → ℕ → Stores → Outcome Stores → Outcome Stores
+abbrev pub onBit : {After : Type 0} → ℕ → List ℕ → ℕ → After → Outcome After → Outcome After
 onBit capacity ws bit s next = check (sound capacity ws) UnfitSet (refused s) (check (ltb bit capacity) BitOutside (refused s) next)
 
 -- ---- calls

@@ -25,7 +25,7 @@ refusedNumber r = noneNumber - r
 abbrev pub numberFor : ℕ → ℕ → ℕ
 numberFor r value = cond (eqb r 0) value (refusedNumber r)
 
-abbrev pub ofOutcome : {Stores : Type 0} → Outcome Stores → ℕ
+abbrev pub ofOutcome : {After : Type 0} → Outcome After → ℕ
 ofOutcome o = numberFor (o .refusal) (o .value)
 
 -- the row of a lookup, none, or the refusal

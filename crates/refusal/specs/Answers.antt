@@ -11,10 +11,10 @@ use Rattle.refusal.specs.declared.Counted.{Counted}
 use Rattle.refusal.specs.declared.Counted.the-variants as C
 
 -- the refusal's number, 0 for none; the value of the answer; the stores that the call may write, after it. A store that it only reads is lent by `&`, and stays.
-pub record Outcome (Stores : Type 0) : Type 0 where
+pub record Outcome (After : Type 0) : Type 0 where
   pub refusal : ℕ
   pub value : ℕ
-  pub after : Stores
+  pub after : After
 
 -- the stores of a call that writes none
 abbrev pub Untouched : Type 0
@@ -23,24 +23,24 @@ Untouched = Unit {0}
 abbrev pub untouched : Untouched
 untouched = tt
 
-module _ {Stores : Type 0} where
-  abbrev pub answered : ℕ → Stores → Outcome Stores
+module _ {After : Type 0} where
+  abbrev pub answered : ℕ → After → Outcome After
   answered v s = record { refusal = 0; value = v; after = s }
 
-  abbrev pub refused : Stores → Refusal → Outcome Stores
+  abbrev pub refused : After → Refusal → Outcome After
   refused s r = record { refusal = numberOf r; value = valueOf r; after = s }
 
   -- the outcome of each answer, beside the stores: done is 0, yes is 1, no is 0, a count is itself
-  abbrev pub made : Made → Stores → Outcome Stores
+  abbrev pub made : Made → After → Outcome After
   made M.Done s = answered 0 s
   made (M.Refused r) s = refused s r
 
-  abbrev pub said : Said → Stores → Outcome Stores
+  abbrev pub said : Said → After → Outcome After
   said S.Yes s = answered 1 s
   said S.No s = answered 0 s
   said (S.Refused r) s = refused s r
 
-  abbrev pub counted : Counted → Stores → Outcome Stores
+  abbrev pub counted : Counted → After → Outcome After
   counted (C.Count n) s = answered n s
   counted (C.Refused r) s = refused s r
 
