@@ -3,7 +3,7 @@
 ghost use mathlib.Core.Path.{_≡_};
 ghost use Rattle.refusal.specs.Answers.{untouched};
 ghost use Rattle.bitvector.specs.Calls.{newCall, onesCall, isEmptyCall, lenCall, containsCall, insertCall, removeCall, insertAllCall, eqLeftCall, membersCall};
-ghost use Rattle.levels.specs.Stores.{stores};
+ghost use Rattle.run.specs.Stores.{stores};
 ghost use Rattle.rows.specs.Rows.{rowStores};
 ghost use Rattle.host.specs.Flat.{seen, seenOf, flatBuilt, flatBuild, flatLookup, flatRows};
 

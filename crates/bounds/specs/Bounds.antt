@@ -1,5 +1,5 @@
 -- The bounds of an index, and how far apart its samples stand, for definitions and promises: `src/lib.rt` has the same for the code.
-use Prim.Native.Nat.{ℕ}
+use Prim.Native.Nat.{ℕ, _*_}
 
 -- the most ids
 abbrev pub maxIds : ℕ
@@ -29,4 +29,4 @@ abbrev pub sampleWords : ℕ
 sampleWords = 8
 
 abbrev pub sampleBits : ℕ
-sampleBits = 512
+sampleBits = 64 * sampleWords

@@ -20,4 +20,4 @@ pub const MAX_LEVELS: u64 = 100;
 // There is a sample for every so many words of a level, and so for every so many bits.
 pub const SAMPLE_WORDS: u64 = 8;
 
-pub const SAMPLE_BITS: u64 = 512;
+pub const SAMPLE_BITS: u64 = 64 * SAMPLE_WORDS;

@@ -21,13 +21,13 @@ use Rattle.laws.specs.Stores.{fronted, zeros}
 use Rattle.rule.specs.Rule.{built, run}
 use Rattle.sizes.specs.Gamma.{aboveMin, aboveMax, Allowed}
 use Rattle.sizes.specs.Sizes.{sizeFor}
-use Rattle.levels.specs.Stores.{Stores, stores}
+use Rattle.run.specs.Stores.{Stores, stores}
 use Rattle.build.specs.Build.{buildAfter, buildChecks, ended, buildCall}
 use Rattle.head.specs.Index.{noHead, ruleOf, roomOf}
-use Rattle.levels.specs.Run.{runOf, Begun, Ran}
+use Rattle.run.specs.Run.{runOf, Begun, Ran}
 use Rattle.build.specs.Ending.{prepared, afterRun, RunRefused}
-use Rattle.levels.specs.declared.Run.{Run}
-use Rattle.levels.specs.declared.Run.the-variants as R
+use Rattle.run.specs.declared.Run.{Run}
+use Rattle.run.specs.declared.Run.the-variants as R
 use Rattle.head.specs.declared.Head.{Head}
 
 -- ---- the checks in their turn

@@ -16,7 +16,7 @@ use Rattle.refusal.specs.declared.Refusal.the-variants.{GammaTooSmall, GammaToo
 use Rattle.rule.specs.Rule.{RunEnd, built, noRoom, idsLeft, run}
 use Rattle.sizes.specs.Gamma.{aboveMin, aboveMax}
 use Rattle.sizes.specs.Sizes.{sizeFor}
-use Rattle.levels.specs.Stores.{Stores, stores}
+use Rattle.run.specs.Stores.{Stores, stores}
 use Rattle.head.specs.Index.{ruleOf, roomOf, indexWords, indexSamples, indexHead, noHead}
 use Rattle.head.specs.declared.Head.{Head}
 

@@ -11,9 +11,9 @@ use Rattle.refusal.specs.declared.Refusal.{Refusal}
 use Rattle.refusal.specs.declared.Refusal.the-variants.{NoRoomForLevel, IdsRemain}
 use Rattle.head.specs.Index.{noHead}
 use Rattle.head.specs.declared.Head.{Head}
-use Rattle.levels.specs.Stores.{Stores, stores}
-use Rattle.levels.specs.declared.Run.{Run}
-use Rattle.levels.specs.declared.Run.the-variants as R
+use Rattle.run.specs.Stores.{Stores, stores}
+use Rattle.run.specs.declared.Run.{Run}
+use Rattle.run.specs.declared.Run.the-variants as R
 use Rattle.build.specs.Build.{BuildEnd, buildAfter}
 
 -- the stores that a run begins with: 0, and the ids at the front of the rest store

@@ -215,7 +215,7 @@ module _ (gamma : Float) (ids : List ℕ) (wordRoom sampleRoom n : ℕ) where
       index-fits =
           rw (words-long, samples-long) (fit-is (length ids) n (builtHead gamma ids n .sizes) wordRoom sampleRoom (record {
             some-level = done .some-level;
-            few-levels = done .few-levels;
+            few-levels = omega (arith, done .few-levels);
             size-least = λ i h. rw (size-is i h) (size-least gamma (length (remaining rule ids i)));
             size-most = λ i h. rw (size-is i h) (size-most gamma (length (remaining rule ids i)) allowed (omega (arith, fewer i)));
             few-ids = few;

@@ -27,7 +27,7 @@ use Rattle.laws.proofs.Cases.{Tri, lt, eq, gt, tri, one-eq}
 use Rattle.laws.proofs.Counts.{same-length, length-sift, count-sift, count-at, only}
 use Rattle.laws.proofs.Sums.{sum-ones}
 use Rattle.build.specs.Build.{BuildEnd, builtOf, buildCall}
-use Rattle.levels.specs.Stores.{Stores}
+use Rattle.run.specs.Stores.{Stores}
 use Rattle.laws.specs.Stores.{filled}
 use Rattle.head.specs.Index.{ruleOf, roomOf}
 use Rattle.finding.specs.Find.{found, nothing, answerOf, rowIn}

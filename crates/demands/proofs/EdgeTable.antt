@@ -11,7 +11,7 @@ use Rattle.mixer.specs.Position.{folded, scaled}
 use Rattle.ranks.specs.Ranks.{firstSamples, samplesOf, onesFrom}
 use Rattle.rule.specs.Rule.{remaining, runFrom}
 use Rattle.sizes.specs.Sizes.{rounded, wholeOf, sizeFor, samplesFor}
-use Rattle.levels.specs.Stores.{stores}
+use Rattle.run.specs.Stores.{stores}
 use Rattle.build.specs.Build.{buildChecks, buildCall}
 use Rattle.laws.specs.Stores.{zeros}
 use Rattle.finding.specs.Find.{Answer, found, nothing, refused, rowAnswer}

@@ -12,7 +12,7 @@ use Rattle.demands.specs.Rooms.{AtLeast, EndsAs, MoreRoom}
 use Rattle.demands.proofs.Built.{run-done}
 use Rattle.demands.proofs.Room.{build-runs}
 use Rattle.build.specs.Build.{ended}
-use Rattle.levels.specs.Stores.{Stores}
+use Rattle.run.specs.Stores.{Stores}
 use Rattle.laws.specs.Stores.{zeros, filled}
 use Rattle.head.specs.Index.{ruleOf, indexWords, indexSamples}
 use Rattle.head.proofs.Indexes.{filled-more, length-words, length-samples-to}

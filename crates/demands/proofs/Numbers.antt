@@ -11,7 +11,7 @@ use Rattle.refusal.specs.declared.Made.the-variants.{Refused}
 use Rattle.rule.specs.Rule.{Rule, Room, remaining, fits, run}
 use Rattle.rule.specs.Demand.{Reaches}
 use Rattle.rule.proofs.Run.{full-known, remaining-known}
-use Rattle.levels.specs.Stores.{Stores}
+use Rattle.run.specs.Stores.{Stores}
 use Rattle.build.specs.Build.{BuildEnd, builtOf, ended, buildCall}
 use Rattle.head.specs.Index.{ruleOf}
 use Rattle.head.specs.declared.Head.{Head}

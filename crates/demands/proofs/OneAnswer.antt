@@ -8,7 +8,7 @@ use Rattle.refusal.specs.Answers.{made}
 use Rattle.refusal.specs.declared.Made.{Made}
 use Rattle.refusal.proofs.Apart.{caseOf, numbered}
 use Rattle.refusal.proofs.Once.{Once, made-once}
-use Rattle.levels.specs.Stores.{Stores}
+use Rattle.run.specs.Stores.{Stores}
 use Rattle.build.specs.Build.{BuildAfter, buildAfter, builtOf, buildCall}
 use Rattle.build.specs.declared.Built.{Built}
 use Rattle.finding.specs.Find.{Answer, found, nothing, refused, answerOf}

@@ -19,7 +19,7 @@ use Rattle.laws.proofs.Blocks.{blocks-same}
 use Rattle.laws.proofs.Cases.{Tri, lt, eq, gt, tri}
 use Rattle.laws.proofs.Counts.{same-total, same-length, same-sift, same-one, length-sift, empty, perm-same}
 use Rattle.build.specs.Build.{BuildEnd, buildChecks, ended, afterChecks, buildCall}
-use Rattle.levels.specs.Stores.{Stores}
+use Rattle.run.specs.Stores.{Stores}
 use Rattle.head.specs.Index.{ruleOf, roomOf, indexWords, indexSamples, indexSizes}
 use Rattle.finding.specs.Find.{rowIn}
 use Rattle.lookup.specs.Lookup.{lookupCall}

@@ -12,7 +12,7 @@ use Rattle.bounds.specs.Bounds.{maxIds, levelLimit}
 use Rattle.demands.specs.Demands.{checksOf, roomIn, ofRun, Outcomes}
 use Rattle.laws.specs.Bits.{wordsFor}
 use Rattle.build.specs.Build.{BuildEnd, builtOf, buildChecks, ended, afterChecks, buildCall}
-use Rattle.levels.specs.Stores.{Stores}
+use Rattle.run.specs.Stores.{Stores}
 use Rattle.head.specs.Index.{noHead, ruleOf}
 use Rattle.head.specs.declared.Head.{Head}
 use Rattle.refusal.specs.Table.{numberOf}

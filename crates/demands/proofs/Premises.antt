@@ -16,7 +16,7 @@ use Rattle.demands.proofs.Larger.{more-room}
 use Rattle.demands.proofs.Order.{build-permuted}
 use Rattle.demands.proofs.Outcomes.{outcomes}
 use Rattle.demands.specs.Inputs.{two}
-use Rattle.demands.proofs.Room.{hundred-enough, room-always, endings, refusals}
+use Rattle.demands.proofs.Room.{full-enough, room-always, endings, refusals}
 use Rattle.demands.proofs.ShutOut.{not-all-first}
 use Rattle.demands.proofs.Used.{front-past, indexed-in, cut-same, build-cut}
 use Rattle.demands.proofs.Twice.{twice-left, twice-full}
@@ -25,7 +25,7 @@ use Rattle.laws.proofs.Counts.{perm-same}
 use Rattle.mixer.specs.Mixer.{mixed}
 use Rattle.mixer.specs.Position.{position}
 use Rattle.build.specs.Build.{BuildEnd, builtOf, refusedRun, buildChecks, buildCall}
-use Rattle.levels.specs.Stores.{Stores, stores}
+use Rattle.run.specs.Stores.{Stores, stores}
 use Rattle.laws.specs.Stores.{zeros}
 use Rattle.head.specs.Index.{ruleOf, indexWords, indexSamples, indexSizes}
 use Rattle.head.specs.Layout.{fit}
@@ -73,11 +73,11 @@ double-bounds = in-bounds double room refl refl refl
 
 pair-room : RoomEnough gamma pair room
 unfolding ofBits sizeFor wholeOf rounded
-pair-room = hundred-enough gamma pair room (record { words = lit≤ tt; samples = lit≤ tt })
+pair-room = full-enough gamma pair room (record { words = lit≤ tt; samples = lit≤ tt })
 
 double-room : RoomEnough gamma double room
 unfolding ofBits sizeFor wholeOf rounded
-double-room = hundred-enough gamma double room (record { words = lit≤ tt; samples = lit≤ tt })
+double-room = full-enough gamma double room (record { words = lit≤ tt; samples = lit≤ tt })
 
 -- ---- two ids are accepted
 

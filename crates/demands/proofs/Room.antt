@@ -10,19 +10,19 @@ use lib.Ieee.{Float}
 use lib.ListN.{length}
 use Rattle.refusal.specs.declared.Made.the-variants.{Done}
 use Rattle.bounds.specs.Bounds.{maxIds, maxBits, levelLimit}
-use Rattle.demands.specs.Demands.{checksOf, roomIn, ofRun, InBounds, RoomEnough, HundredLevels, leftOver, Refusals, ComesTo, roomFor, Endings}
+use Rattle.demands.specs.Demands.{checksOf, roomIn, ofRun, InBounds, RoomEnough, FullRoom, leftOver, Refusals, ComesTo, roomFor, Endings}
 use Rattle.demands.proofs.Outcomes.{outcomes, was-5, was-6}
 use Rattle.laws.specs.Bits.{wordsFor}
 use Rattle.laws.specs.Counting.{sum}
 use Rattle.laws.proofs.Cases.{Tri, lt, eq, gt, tri}
 use Rattle.laws.proofs.Counts.{empty}
 use Rattle.build.specs.Build.{BuildEnd, cleared, ended, buildCall}
-use Rattle.levels.specs.Stores.{Stores}
+use Rattle.run.specs.Stores.{Stores}
 use Rattle.head.specs.Index.{noHead, ruleOf}
 use Rattle.head.specs.Layout.{samplesOfSize}
 use Rattle.build.proofs.Builds.{checked, passed}
 use Rattle.head.proofs.Indexes.{rule-sound}
-use Rattle.rule.specs.Demand.{Ends, none-left, out-of-room, at-limit, Demand3}
+use Rattle.rule.specs.Demand.{Ends, none-left, out-of-room, at-limit, RunDemand}
 use Rattle.rule.specs.Rule.{Rule, Room, RunEnd, built, noRoom, idsLeft, remaining, span, run}
 use Rattle.rule.proofs.Demand.{demand3}
 use Rattle.rule.proofs.Levels.{remaining-fewer}
@@ -116,7 +116,7 @@ module _ (gamma : Float) (ids : List ℕ) (s : Stores) where
   -- ---- with room enough
 
   module _ (enough : RoomEnough gamma ids s) where
-    demand : Demand3 rule room ids levelLimit
+    demand : RunDemand rule room ids levelLimit
     demand = demand3 rule room ids (rule-sound gamma) levelLimit (lit< tt)
 
     module _ (b : InBounds gamma ids s) where
@@ -153,9 +153,9 @@ module _ (gamma : Float) (ids : List ℕ) (s : Stores) where
 
 module _ (gamma : Float) (ids : List ℕ) (s : Stores) where
   -- for a hundred levels of level 0's size: no level is larger
-  pub hundred-enough : HundredLevels gamma ids s → RoomEnough gamma ids s
+  pub full-enough : FullRoom gamma ids s → RoomEnough gamma ids s
   unfolding remaining
-  hundred-enough r =
+  full-enough r =
       let fewer : (i : ℕ) → length (remaining (ruleOf gamma) ids i) ≤ length ids = λ i. remaining-fewer (ruleOf gamma) ids 0 i (omega arith) in
       all-enough (ruleOf gamma) (roomIn s) ids levelLimit
       (room-enough (ruleOf gamma) (roomIn s) ids levelLimit
@@ -167,4 +167,4 @@ module _ (gamma : Float) (ids : List ℕ) (s : Stores) where
       → levelLimit * samplesOfSize maxBits ≤ length (s .samples) → RoomEnough gamma ids s
   room-always allowed few w v =
       let most : sizeFor gamma (length ids) ≤ maxBits = size-most gamma (length ids) allowed few in
-      hundred-enough (record { words = omega arith; samples = omega arith })
+      full-enough (record { words = omega arith; samples = omega arith })

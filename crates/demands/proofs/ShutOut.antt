@@ -15,7 +15,7 @@ use Rattle.laws.specs.Counting.{one, count}
 use Rattle.laws.specs.Bits.{bitAt, has}
 use Rattle.mixer.specs.Mixer.{mixed}
 use Rattle.mixer.specs.Position.{position}
-use Rattle.levels.specs.Stores.{Stores}
+use Rattle.run.specs.Stores.{Stores}
 use Rattle.build.specs.Build.{builtOf, cleared, buildCall}
 use Rattle.head.specs.Index.{noHead}
 use Rattle.finding.specs.Find.{found, answerOf}

@@ -16,7 +16,7 @@ use Rattle.rule.specs.Rule.{Rule, remaining, span, start, Room, fits, idsLeft}
 use Rattle.rule.specs.Demand.{Reaches, out-of-room, at-limit}
 use Rattle.rule.proofs.Run.{room-enough, words-short, ends-only}
 use Rattle.sizes.specs.Sizes.{sizeFor, wholeOf, rounded}
-use Rattle.levels.specs.Stores.{Stores}
+use Rattle.run.specs.Stores.{Stores}
 use Rattle.build.specs.Build.{buildChecks, refusedRun, buildCall}
 use Rattle.head.specs.Index.{ruleOf, roomOf}
 use Rattle.build.proofs.Builds.{checked}

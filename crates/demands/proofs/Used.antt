@@ -17,7 +17,7 @@ use Rattle.laws.proofs.Parts.{length-part}
 use Rattle.laws.proofs.Sums.{sum-mono}
 use Rattle.mixer.specs.Position.{position}
 use Rattle.build.specs.Build.{BuildEnd, buildCall}
-use Rattle.levels.specs.Stores.{Stores}
+use Rattle.run.specs.Stores.{Stores}
 use Rattle.head.specs.Layout.{samplesOfSize, sizeAt, levelWords, levelSamples, fit}
 use Rattle.finding.specs.Find.{Answer, rowAnswer, levelAnswer, findIn}
 use Rattle.lookup.specs.Lookup.{lookupCall}

@@ -15,7 +15,7 @@ use Rattle.bounds.specs.Bounds.{maxIds, levelLimit}
 use Rattle.laws.specs.Counting.{count, Same}
 use Rattle.laws.specs.Bits.{wordsFor}
 use Rattle.build.specs.Build.{BuildEnd, refusedRun, buildChecks, ended, buildCall}
-use Rattle.levels.specs.Stores.{Stores, stores}
+use Rattle.run.specs.Stores.{Stores, stores}
 use Rattle.head.specs.Index.{noHead, ruleOf, roomOf}
 use Rattle.head.specs.Layout.{samplesOfSize}
 use Rattle.finding.specs.Find.{Answer, found, nothing}
@@ -79,7 +79,7 @@ abbrev pub samplesEnough : Float → ℕ → ℕ
 samplesEnough gamma n = levelLimit * samplesOfSize (sizeFor gamma n)
 
 -- The stores have that room, which is always enough.
-pub record HundredLevels (gamma : Float) (ids : List ℕ) (s : Stores) : Type 0 where
+pub record FullRoom (gamma : Float) (ids : List ℕ) (s : Stores) : Type 0 where
   pub words : wordsEnough gamma (length ids) ≤ length (s .words)
   pub samples : samplesEnough gamma (length ids) ≤ length (s .samples)
 

@@ -5,7 +5,7 @@ use lib.Ieee.{Float, binary64, ofBits}
 use Rattle.bounds.specs.Bounds.{headSizes}
 use Rattle.refusal.specs.declared.Made.the-variants.{Done, Refused}
 use Rattle.refusal.specs.declared.Refusal.{Refusal}
-use Rattle.levels.specs.Stores.{Stores, stores}
+use Rattle.run.specs.Stores.{Stores, stores}
 use Rattle.laws.specs.Stores.{zeros, filled}
 use Rattle.head.specs.Index.{noHead}
 use Rattle.build.specs.declared.Built.{Built}

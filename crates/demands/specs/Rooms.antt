@@ -5,7 +5,7 @@ use Prim.Native.Nat.{ℕ, _≤_, _<_}
 use lib.Ieee.{Float}
 use lib.ListN.{length, getD, take}
 use Rattle.build.specs.Build.{BuildEnd, buildAfter, buildCall}
-use Rattle.levels.specs.Stores.{Stores, stores}
+use Rattle.run.specs.Stores.{Stores, stores}
 use Rattle.laws.specs.Stores.{filled}
 use Rattle.head.specs.Layout.{sizeAt, wordStart, sampleStart}
 use Rattle.lookup.specs.Lookup.{lookupCall}

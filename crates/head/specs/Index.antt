@@ -14,9 +14,13 @@ use Rattle.sizes.specs.Sizes.{sizeFor}
 use Rattle.head.specs.Layout.{samplesOfSize}
 use Rattle.head.specs.declared.Head.{Head}
 
--- the rule of levels: the mixer's position, and the sizes of gamma
+-- the rule of positions of an index: builds and lookups take it from here
+abbrev pub positions : (level size id : ℕ) → ℕ
+positions = position
+
+-- the rule of levels: positions, and the sizes of gamma
 abbrev pub ruleOf : Float → Rule
-ruleOf gamma = record { pos = position; size = sizeFor gamma }
+ruleOf gamma = record { pos = positions; size = sizeFor gamma }
 
 -- the room that stores of so many words and samples have
 abbrev pub roomOf : ℕ → ℕ → Room

@@ -36,7 +36,7 @@ levelSamples span ss i = take (samplesOfSize (span i)) (drop (sampleStart span i
 abbrev pub sizeFits : ℕ → Bool
 sizeFits size = leb minBits size && leb size maxBits
 
--- Whether a head fits its bounds and stores of so many words and samples: 1 to 100 levels, each used size within its bounds, the id count within its bound, and
+-- Whether a head fits its bounds and stores of so many words and samples: at least one level and no more than a head may name, each used size within its bounds, the id count within its bound, and
 -- stores as long as the sizes ask. Refusal 7 is given where it does not.
 unfoldable pub fit : ℕ → ℕ → List ℕ → ℕ → ℕ → Bool
 fit count levels sizes wordRoom sampleRoom =

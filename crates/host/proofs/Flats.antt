@@ -16,7 +16,7 @@ use Rattle.refusal.specs.declared.Made.{Made}
 use Rattle.refusal.specs.declared.Made.the-variants as M
 use Rattle.head.specs.declared.Head.{Head}
 use Rattle.head.specs.Numbers.{headNumbers, headOf, numbersOf}
-use Rattle.levels.specs.Stores.{Stores}
+use Rattle.run.specs.Stores.{Stores}
 use Rattle.build.specs.Build.{BuildEnd, builtOf, buildCall}
 use Rattle.finding.specs.declared.Place.{Place}
 use Rattle.finding.specs.declared.Found.{Found}

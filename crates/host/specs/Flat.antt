@@ -11,7 +11,7 @@ use Rattle.refusal.specs.Answers.{Outcome, check}
 use Rattle.refusal.specs.declared.Refusal.{Refusal}
 use Rattle.refusal.specs.declared.Refusal.the-variants.{UnfitHead, ShortOutput}
 use Rattle.head.specs.Numbers.{headNumbers, headOf, numbersOf}
-use Rattle.levels.specs.Stores.{Stores}
+use Rattle.run.specs.Stores.{Stores}
 use Rattle.build.specs.Build.{BuildEnd, buildCall}
 use Rattle.finding.specs.Find.{Answer, found, nothing, refused}
 use Rattle.lookup.specs.Lookup.{lookupCall}

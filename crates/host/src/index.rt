@@ -6,7 +6,7 @@ ghost use lib.ListN.{length};
 ghost use Rattle.bounds.specs.Bounds.{headSizes};
 ghost use Rattle.laws.specs.Stores.{fronted};
 ghost use Rattle.head.specs.Numbers.{numbersOf};
-ghost use Rattle.levels.specs.Stores.{stores};
+ghost use Rattle.run.specs.Stores.{stores};
 ghost use Rattle.rows.specs.Rows.{rowStores};
 ghost use Rattle.host.specs.Flat.{seen, flatBuilt, outPlaces, flatBuild, flatLookup, flatRows};
 use crate::answer;
@@ -19,6 +19,9 @@ use refusal::Refusal;
 
 // How many places the `out` of a build needs: one for a value, and the head's.
 const OUT: usize = 1 + NUMBERS;
+
+// How many places the `place` of a lookup needs: level and position.
+const PLACE: usize = 2;
 
 // Builds an index of the ids: 0, or the refusal. `out` gets the value that refusal 5 or 6 carries, else 0, and the head.
 #[no_mangle]
@@ -67,7 +70,7 @@ pub extern "C" fn shawltide_lookup(
     ensures { λ r. ⌜ seen r (now (place .exit))
         ≡ flatLookup (now (head .entry)) (now (words .entry)) (now (samples .entry)) id (now (place .entry)) ⌝ }
 {
-    if place.len() < 2 {
+    if place.len() < PLACE {
         return refused(Refusal::ShortOutput);
     }
     if head.len() != NUMBERS {

@@ -1,1 +1,2 @@
+-- What only serves inner contracts.
 pub mod Lines

@@ -2,7 +2,7 @@
 use Prim.Native.Nat.{ℕ}
 use mathlib.Core.List.{List}
 use lib.ListN.{length}
-use Rattle.mixer.specs.Position.{position}
+use Rattle.head.specs.Index.{positions}
 use Rattle.refusal.specs.Answers.{check}
 use Rattle.refusal.specs.declared.Refusal.the-variants.{UnfitHead}
 use Rattle.head.specs.Layout.{sizeAt, fit}
@@ -12,4 +12,4 @@ use Rattle.finding.specs.Find.{Answer, refusedFor, findIn}
 unfoldable pub lookupCall : Head → List ℕ → List ℕ → ℕ → Answer
 lookupCall head ws ss x =
     check (fit (head .count) (head .levels) (head .sizes) (length ws) (length ss)) UnfitHead refusedFor
-    (findIn position (head .count) (sizeAt (head .sizes)) ws ss x (head .levels))
+    (findIn positions (head .count) (sizeAt (head .sizes)) ws ss x (head .levels))

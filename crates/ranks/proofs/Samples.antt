@@ -7,13 +7,14 @@ use native.Mathlib.Omega.{arith}
 use lib.Dec.{lit<}
 use lib.ListN.{length, getD, take, drop, set, length-append, length-drop}
 use lib.Seq.{drop-cons, set-at, take-at, drop-at}
-use Rattle.bounds.specs.Bounds.{sampleBits}
+use Rattle.bounds.specs.Bounds.{sampleBits, sampleWords}
 use Rattle.laws.specs.Counting.{rank}
 use Rattle.laws.specs.Bits.{has}
 use Rattle.laws.proofs.Sums.{rank-same, sum-ones}
 use Rattle.laws.proofs.Blocks.{blocks-same, length-blocks, blocks-at}
 use Rattle.sizes.specs.Sizes.{samplesFor}
-use Rattle.ranks.specs.Ranks.{firstSamples, samplesOf, onesFrom, withSamples}
+use Rattle.ranks.specs.Ranks.{firstSamples, samplesOf, onesFrom}
+use Rattle.ranks.specs.Sampling.{withSamples}
 use Rattle.ranks.proofs.Ones.{rank-from}
 
 module _ (before : ℕ) (ws : List ℕ) where
@@ -79,7 +80,7 @@ module _ (before : ℕ) (ws store : List ℕ) where
       (set-at (firstSamples before ws j) _ (drop (suc j) store) _ j (length-first before ws j))
 
   -- and one at which none starts
-  pub within-sample : (i : ℕ) → 0 < i % 8 → sampledTo i ≡ sampledTo (i + 1)
+  pub within-sample : (i : ℕ) → 0 < i % sampleWords → sampledTo i ≡ sampledTo (i + 1)
   within-sample i h =
       let e : samplesFor i ≡ samplesFor (i + 1) = omega arith in
       ap (λ (n : ℕ). firstSamples before ws n ++ drop n store) e

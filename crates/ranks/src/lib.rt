@@ -3,7 +3,8 @@ ghost use mathlib.Core.Path.{_≡_};
 ghost use Prim.Native.Nat.{_+_, _*_, _^_, _≤_, _<_};
 ghost use lib.ListN.{length, take, drop};
 ghost use Rattle.sizes.specs.Sizes.{samplesFor};
-ghost use Rattle.ranks.specs.Ranks.{onesFrom, Sampled};
+ghost use Rattle.ranks.specs.Ranks.{onesFrom};
+ghost use Rattle.ranks.specs.Sampling.{Sampled};
 
 // There is a sample for every so many words.
 const STRIDE: usize = bounds::SAMPLE_WORDS as usize;

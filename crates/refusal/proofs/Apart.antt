@@ -1,25 +1,27 @@
 -- The number and the value tell any two refusals apart: from them the case can be read back. Assumes nothing.
 use mathlib.Core.Path.{_≡_, refl, sym, ap₂, _∙_}
 use mathlib.Core.Bool.{cond}
-use mathlib.Core.List.{[], _∷_}
-use Prim.Native.Nat.{ℕ, _-_, _≤_, _<_}
+use mathlib.Core.List.{List, [], _∷_}
+use Prim.Native.Nat.{ℕ, _≤_, _<_}
 use native.Mathlib.Omega.{arith}
 use borrow.Author.Tests.{ne-eqb}
 use lib.Dec.{eqb, lit<, lit≤}
-use lib.ListN.{getD}
 use Rattle.refusal.specs.Table.{numberOf, valueOf, lastNumber}
 use Rattle.refusal.specs.declared.Refusal.{Refusal}
 use Rattle.refusal.specs.declared.Refusal.the-variants.{GammaTooSmall, GammaTooLarge, TooManyIds, ShortWorkStore, NoRoomForLevel, IdsRemain}
 use Rattle.refusal.specs.declared.Refusal.the-variants.{UnfitHead, UnfitRow, BitOutside, UnfitSet, ShortOutput, WrongIds}
 
+-- the first of some cases that has a number
+abbrev withNumber : ℕ → List Refusal → Refusal
+withNumber n [] = WrongIds
+withNumber n (r ∷ rs) = cond (eqb (numberOf r) n) r (withNumber n rs)
+
 -- the case of a number and a value
 abbrev pub caseOf : ℕ → ℕ → Refusal
 caseOf n v =
-    getD
+    withNumber n
     (GammaTooSmall ∷ GammaTooLarge ∷ TooManyIds ∷ ShortWorkStore ∷ NoRoomForLevel v ∷ IdsRemain v ∷ UnfitHead ∷ UnfitRow ∷ BitOutside ∷ UnfitSet
     ∷ ShortOutput ∷ WrongIds ∷ [])
-    (n - 1)
-    WrongIds
 
 -- what is known of the number of a refusal: it is not 0, which stands for none, nor past the table, and the case can be read back
 pub record Numbered (r : Refusal) : Type 0 where

@@ -7,7 +7,7 @@ use lib.ListN.{length}
 use Rattle.laws.specs.Counting.{count}
 use Rattle.laws.proofs.Counts.{empty, count-le-length}
 use Rattle.rule.specs.Rule.{Rule, remaining, Room, built, idsLeft, run}
-use Rattle.rule.specs.Demand.{Sound, Reaches, Enough, Ends, none-left, out-of-room, at-limit, Demand3}
+use Rattle.rule.specs.Demand.{Sound, Reaches, Enough, Ends, none-left, out-of-room, at-limit, RunDemand}
 use Rattle.rule.proofs.Levels.{remaining-fewer, twice}
 use Rattle.rule.proofs.Run.{reaches-all, run-ends, ends-only, built-done, remaining-known}
 use Rattle.rule.proofs.RowLaws.{perfect}
@@ -31,7 +31,7 @@ module _ (rule : Rule) (room : Room) (ids : List ℕ) where
       go (at-limit r q) = absurd (omega (arith, last-leaves limit p r, ap length d))
 
   module _ (sound : Sound rule) where
-    pub demand3 : (limit : ℕ) → 0 < limit → Demand3 rule room ids limit
+    pub demand3 : (limit : ℕ) → 0 < limit → RunDemand rule room ids limit
     demand3 limit p = record {
       refused = λ enough n. (
         λ e.

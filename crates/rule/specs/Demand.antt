@@ -66,7 +66,7 @@ module _ (rule : Rule) (room : Room) (ids : List ℕ) where
   Enough limit = (i : ℕ) → i < limit → Reaches i → fits rule room ids (suc i) ≡ true
 
   -- Demand 3, of a run to a limit that is not 0.
-  pub record Demand3 (limit : ℕ) : Type 0 where
+  pub record RunDemand (limit : ℕ) : Type 0 where
     -- with room enough: refused exactly if ids are left after the last level below the limit, with their number, and else built
     pub refused : Enough limit → (n : ℕ) → (run rule room ids limit ≡ idsLeft n) ↔ ((0 < n) × (length (remaining rule ids limit) ≡ n))
     pub accepted : Enough limit → ((L : ℕ) × (run rule room ids limit ≡ built L)) ↔ (remaining rule ids limit ≡ [])

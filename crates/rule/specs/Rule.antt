@@ -91,7 +91,7 @@ module _ (span : ℕ → ℕ) (bits : ℕ → ℕ → Bool) where
   abbrev pub rowAt : ℕ → ℕ → ℕ
   rowAt i p = base i + rank (bits i) p
 
-  -- sample j of level i: the bits set in all earlier levels and in this level's words before word 8 j, which are the bits below 512 j
+  -- sample j of level i: the bits set in all earlier levels and in this level's words before the first that it stands for
   abbrev pub sample : ℕ → ℕ → ℕ
   sample i j = base i + rank (bits i) (sampleBits * j)
 

@@ -1,6 +1,6 @@
 -- `build::begin` meets its contract. Assumes nothing.
 use borrow.Author.Needs.{needs}
-use Rattle.levels.specs.Stores.{stores}
+use Rattle.run.specs.Stores.{stores}
 use Rattle.build.proofs.Builds.{prepared-is}
 use Rattle.build.proofs.begin.Statement.{statement}
 use Rattle.build.proofs.begin.Tie as tie

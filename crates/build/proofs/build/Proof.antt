@@ -5,10 +5,10 @@ use lib.ListN.{length}
 use borrow.Author.Needs.{needs}
 use Rattle.refusal.specs.declared.Made.the-variants.{Done}
 use Rattle.bounds.specs.Bounds.{headSizes}
-use Rattle.levels.specs.Stores.{Stores, stores}
+use Rattle.run.specs.Stores.{Stores, stores}
 use Rattle.build.specs.Build.{buildChecks}
 use Rattle.laws.specs.Stores.{zeros}
-use Rattle.levels.specs.Run.{Begun}
+use Rattle.run.specs.Run.{Begun}
 use Rattle.build.proofs.Builds.{Passed, passed, begun, build-refused, build-ends}
 use Rattle.build.proofs.build.Statement.{statement}
 use Rattle.build.proofs.build.Tie as tie

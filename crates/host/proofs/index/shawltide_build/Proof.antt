@@ -1,6 +1,6 @@
 -- `host::index::shawltide_build` meets its contract. Assumes nothing.
 use native.Mathlib.Omega.{arith}
-use Rattle.levels.specs.Stores.{stores}
+use Rattle.run.specs.Stores.{stores}
 use Rattle.host.proofs.Flats.{build-short, build-asked}
 use borrow.Author.Needs.{needs}
 use Rattle.host.proofs.index.shawltide_build.Statement.{statement}

@@ -11,9 +11,9 @@ use Rattle.rule.specs.Rule.{RunEnd, built, noRoom, idsLeft, run}
 use Rattle.sizes.specs.Gamma.{Allowed}
 use Rattle.sizes.specs.Sizes.{sizeFor}
 use Rattle.head.specs.Index.{ruleOf, roomOf, indexWords, indexSamples, indexSizes}
-use Rattle.levels.specs.Stores.{Stores}
-use Rattle.levels.specs.declared.Run.{Run}
-use Rattle.levels.specs.declared.Run.the-variants as R
+use Rattle.run.specs.Stores.{Stores}
+use Rattle.run.specs.declared.Run.{Run}
+use Rattle.run.specs.declared.Run.the-variants as R
 
 -- how the run ended, in the words of the level rule
 abbrev pub runOf : Run → RunEnd

@@ -1,4 +1,4 @@
--- `levels::build_levels` meets its contract: before level i the stores hold the levels of the rule before it. Assumes nothing.
+-- `run::build_levels` meets its contract: before level i the stores hold the levels of the rule before it. Assumes nothing.
 use mathlib.Core.Path.{_≡_, refl}
 use Prim.Native.Nat.{_-_, _≤_}
 use native.Mathlib.Numerals.{add-one}
@@ -8,12 +8,12 @@ use borrow.Author.Needs.{needs}
 use Rattle.bounds.specs.Bounds.{levelLimit}
 use Rattle.rule.specs.Demand.{Reaches}
 use Rattle.rule.proofs.Run.{reaches-0}
-use Rattle.levels.specs.Stores.{stores}
+use Rattle.run.specs.Stores.{stores}
 use Rattle.head.specs.Index.{ruleOf, roomOf}
-use Rattle.levels.proofs.Turns.{turn-is}
-use Rattle.levels.proofs.Runs.{State, begins, ready-next, goes-on, ran-full, ran-built, ran-left}
-use Rattle.levels.proofs.build_levels.Statement.{statement}
-use Rattle.levels.proofs.build_levels.Tie as tie
+use Rattle.run.proofs.Turns.{turn-is}
+use Rattle.run.proofs.Runs.{State, begins, ready-next, goes-on, ran-full, ran-built, ran-left}
+use Rattle.run.proofs.build_levels.Statement.{statement}
+use Rattle.run.proofs.build_levels.Tie as tie
 
 abbrev Inv-loop : tie.InvT-loop
 Inv-loop gamma count sizes₀ words₀ samples₀ collide₀ rest₀ at₀ i₀ sizes words samples collide rest at i =

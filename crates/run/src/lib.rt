@@ -2,9 +2,9 @@
 ghost use mathlib.Core.Path.{_≡_};
 ghost use lib.ListN.{take, drop};
 ghost use Rattle.mixer.specs.Position.{position};
-ghost use Rattle.levels.specs.Stores.{stores};
-ghost use Rattle.levels.specs.Run.{Begun, Ran};
-ghost use Rattle.levels.specs.Turn.{Placeable, PlacedAt, Sampleable, SampledAt, TurnRoom, turned, levelTurn};
+ghost use Rattle.run.specs.Stores.{stores};
+ghost use Rattle.run.specs.Run.{Begun, Ran};
+ghost use Rattle.run.specs.Turn.{Placeable, PlacedAt, Sampleable, SampledAt, TurnRoom, turned, levelTurn};
 use bounds::HEAD_SIZES;
 use bounds::LEVEL_LIMIT;
 use ranks::part;

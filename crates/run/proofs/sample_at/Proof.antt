@@ -1,8 +1,8 @@
--- `levels::sample_at` meets its contract. Assumes nothing.
+-- `run::sample_at` meets its contract. Assumes nothing.
 use borrow.Author.Needs.{needs}
-use Rattle.levels.proofs.Turns.{ranks-ask, samples-placed}
-use Rattle.levels.proofs.sample_at.Statement.{statement}
-use Rattle.levels.proofs.sample_at.Tie as tie
+use Rattle.run.proofs.Turns.{ranks-ask, samples-placed}
+use Rattle.run.proofs.sample_at.Statement.{statement}
+use Rattle.run.proofs.sample_at.Tie as tie
 
 pub sample-at-spec : {M : Type 1} → statement M
 sample-at-spec =

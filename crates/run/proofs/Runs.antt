@@ -24,14 +24,14 @@ use Rattle.sizes.specs.Gamma.{Allowed}
 use Rattle.sizes.specs.Sizes.{sizeFor}
 use Rattle.sizes.proofs.Sizes.{size-mono}
 use Rattle.head.specs.Layout.{samplesOfSize}
-use Rattle.levels.specs.Stores.{Stores, stores}
+use Rattle.run.specs.Stores.{Stores, stores}
 use Rattle.head.specs.Index.{ruleOf, roomOf, wordsAt, samplesAt, indexWords, indexSamples, indexSizes}
-use Rattle.levels.specs.Turn.{nextSize, TurnRoom, hasRoom, comers, spot, ownWords, turned, nextProgress, nextStores, levelTurn}
-use Rattle.levels.specs.Run.{Begun, Ran}
-use Rattle.levels.specs.declared.Run.the-variants as R
-use Rattle.levels.specs.declared.Progress.{Progress}
-use Rattle.levels.specs.declared.Turn.the-variants as T
-use Rattle.levels.proofs.Turns.{turn-placed, turn-full}
+use Rattle.run.specs.Turn.{nextSize, TurnRoom, hasRoom, comers, spot, ownWords, turned, nextProgress, nextStores, levelTurn}
+use Rattle.run.specs.Run.{Begun, Ran}
+use Rattle.run.specs.declared.Run.the-variants as R
+use Rattle.run.specs.declared.Progress.{Progress}
+use Rattle.run.specs.declared.Turn.the-variants as T
+use Rattle.run.proofs.Turns.{turn-placed, turn-full}
 use Rattle.head.proofs.Indexes.{rule-sound, length-filled, filled-past, filled-pasted, filled-set, length-words-at, length-samples-at, length-words, length-samples-to, length-sizes, words-next, samples-next, sizes-next}
 
 module _ (gamma : Float) (ids : List ℕ) (s₀ : Stores) where

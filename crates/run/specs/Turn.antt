@@ -15,10 +15,10 @@ use Rattle.sizes.specs.Gamma.{Allowed}
 use Rattle.sizes.specs.Sizes.{samplesFor}
 use Rattle.head.specs.Index.{ruleOf}
 use Rattle.head.specs.Layout.{samplesOfSize}
-use Rattle.levels.specs.Stores.{Stores, stores}
-use Rattle.levels.specs.declared.Progress.{Progress}
-use Rattle.levels.specs.declared.Turn.{Turn}
-use Rattle.levels.specs.declared.Turn.the-variants as T
+use Rattle.run.specs.Stores.{Stores, stores}
+use Rattle.run.specs.declared.Progress.{Progress}
+use Rattle.run.specs.declared.Turn.{Turn}
+use Rattle.run.specs.declared.Turn.the-variants as T
 
 -- ---- the ids of a level, placed in its words
 

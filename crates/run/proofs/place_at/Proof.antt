@@ -1,8 +1,8 @@
--- `levels::place_at` meets its contract. Assumes nothing.
+-- `run::place_at` meets its contract. Assumes nothing.
 use borrow.Author.Needs.{needs}
-use Rattle.levels.proofs.Turns.{level-asks, words-placed, collide-again}
-use Rattle.levels.proofs.place_at.Statement.{statement}
-use Rattle.levels.proofs.place_at.Tie as tie
+use Rattle.run.proofs.Turns.{level-asks, words-placed, collide-again}
+use Rattle.run.proofs.place_at.Statement.{statement}
+use Rattle.run.proofs.place_at.Tie as tie
 
 returns : tie.Need-returns
 returns c =

@@ -15,19 +15,20 @@ use Rattle.laws.specs.Bits.{wordsFor, packed}
 use Rattle.laws.proofs.Packing.{length-packed}
 use Rattle.laws.proofs.Parts.{length-part, lent-from, take-same, drop-same}
 use Rattle.level.specs.Level.{ClearWords, LevelRoom}
-use Rattle.ranks.specs.Ranks.{setBits, samplesOf, withSamples}
+use Rattle.ranks.specs.Ranks.{setBits, samplesOf}
+use Rattle.ranks.specs.Sampling.{withSamples}
 use Rattle.ranks.proofs.Samples.{length-samples}
 use Rattle.mixer.specs.Position.{position}
 use Rattle.rule.specs.Rule.{single}
 use Rattle.sizes.specs.Sizes.{samplesFor}
 use Rattle.sizes.proofs.Sizes.{size-least, size-most}
 use Rattle.head.specs.Layout.{samplesOfSize}
-use Rattle.levels.specs.Stores.{Stores, stores}
+use Rattle.run.specs.Stores.{Stores, stores}
 use Rattle.laws.specs.Stores.{zeros, pasted}
-use Rattle.levels.specs.Turn.{Placeable, PlacedAt, Sampleable, SampledAt, nextSize, TurnRoom, hasRoom, Turned, turned, nextProgress, nextStores, levelTurn}
-use Rattle.levels.specs.declared.Progress.{Progress}
-use Rattle.levels.specs.declared.Turn.{Turn}
-use Rattle.levels.specs.declared.Turn.the-variants as T
+use Rattle.run.specs.Turn.{Placeable, PlacedAt, Sampleable, SampledAt, nextSize, TurnRoom, hasRoom, Turned, turned, nextProgress, nextStores, levelTurn}
+use Rattle.run.specs.declared.Progress.{Progress}
+use Rattle.run.specs.declared.Turn.{Turn}
+use Rattle.run.specs.declared.Turn.the-variants as T
 
 -- all places from `at` on, as they are lent
 lent-all : (at : ℕ) (store : List ℕ) → take (length store - at) (drop at store) ≡ drop at store

@@ -1,9 +1,9 @@
--- `levels::build_level` meets its contract. Assumes nothing.
+-- `run::build_level` meets its contract. Assumes nothing.
 use native.Mathlib.Omega.{arith}
 use borrow.Author.Needs.{needs}
-use Rattle.levels.proofs.Turns.{size-small, words-short, samples-short, placeable, sampleable, placed}
-use Rattle.levels.proofs.build_level.Statement.{statement}
-use Rattle.levels.proofs.build_level.Tie as tie
+use Rattle.run.proofs.Turns.{size-small, words-short, samples-short, placeable, sampleable, placed}
+use Rattle.run.proofs.build_level.Statement.{statement}
+use Rattle.run.proofs.build_level.Tie as tie
 
 -- the places of the code, from the last back: the ids are placed, there is room, the level is measured, the entry
 abbrev at-placed : tie.After-sample-at → tie.After-place-at
