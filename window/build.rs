@@ -1,18 +1,17 @@
 //! Links libhost.a, the proved calls, from the folder that `SHAWLTIDE_LIB` names, or from where `tools/libhost` writes it. libhost.id beside it says which
 //! toolchain proved it.
 
-use std::path::PathBuf;
+use std::path::{Path, PathBuf};
 use std::{env, fs, process};
 
 fn main() {
     let package = PathBuf::from(env::var_os("CARGO_MANIFEST_DIR").expect("cargo sets it"));
-    let folder = env::var_os("SHAWLTIDE_LIB").map_or_else(|| package.join("../target/staticlib"), PathBuf::from);
+    let folder = folder(&package);
     let library = folder.join("libhost.a");
     println!("cargo:rerun-if-env-changed=SHAWLTIDE_LIB");
     println!("cargo:rerun-if-changed={}", library.display());
     if !library.exists() {
-        eprintln!("{} is not there: tools/libhost makes it.", library.display());
-        process::exit(1);
+        stop(format!("{} is not there: tools/libhost makes it.", library.display()));
     }
     println!("cargo:rustc-link-search=native={}", folder.display());
     println!("cargo:rustc-link-lib=static=host");
@@ -20,6 +19,25 @@ fn main() {
         "cargo:rustc-env=SHAWLTIDE_TOOLCHAIN={}",
         toolchain(folder.join("libhost.id"))
     );
+}
+
+/// An empty variable counts as none. cargo builds in a folder of its own, so that a path from elsewhere would name another.
+fn folder(package: &Path) -> PathBuf {
+    match env::var_os("SHAWLTIDE_LIB").filter(|named| !named.is_empty()) {
+        None => package.join("../target/staticlib"),
+        Some(named) => {
+            let named = PathBuf::from(named);
+            if named.is_relative() {
+                stop(format!("SHAWLTIDE_LIB is not a full path: {}", named.display()));
+            }
+            named
+        }
+    }
+}
+
+fn stop(why: String) -> ! {
+    eprintln!("{why}");
+    process::exit(1);
 }
 
 /// What the toolchain calls itself, or `unknown` where no file says it.

@@ -113,7 +113,8 @@ static inline uint64_t shawltide_refusal(uint64_t result) {
 #define SHAWLTIDE_LIKELY_SAMPLES(n, gamma) \
     (3 * SHAWLTIDE_SAMPLES(SHAWLTIDE_FIRST_BITS(n, gamma)) + SHAWLTIDE_LEVEL_LIMIT * SHAWLTIDE_SAMPLES(SHAWLTIDE_MIN_BITS))
 
-/* What is enough for any n ids: no build in it is refused with 5. It is up to 33 times as much. */
+/* What is enough for any n ids: no build in it is refused with 5. It is up to 33 times as much; for a few ids it is a little less, which does no
+ * harm. */
 #define SHAWLTIDE_ENOUGH_WORDS(n, gamma) (SHAWLTIDE_LEVEL_LIMIT * SHAWLTIDE_COLLIDE(n, gamma))
 #define SHAWLTIDE_ENOUGH_SAMPLES(n, gamma) (SHAWLTIDE_LEVEL_LIMIT * SHAWLTIDE_SAMPLES(SHAWLTIDE_FIRST_BITS(n, gamma)))
 
@@ -174,7 +175,8 @@ uint64_t shawltide_lookup(const uint64_t *head, size_t head_len, const uint64_t 
 
 /* Writes at each row the id that lookup sends there: 0. ids: those of the index, in any order.
  * head, words, samples: as for a lookup.
- * rows: a place for each id, or more; later places stay. marks: WORDS(id count) places or more; those are then 0, later ones stay.
+ * rows: as many places as the head's id count, head[0], or more; later places stay. marks: WORDS(head[0]) places or more; those are then 0, later
+ *      ones stay.
  * Refused: 7, 11, 12. */
 uint64_t shawltide_rows(const uint64_t *head, size_t head_len, const uint64_t *words, size_t words_len,
                         const uint64_t *samples, size_t samples_len, const uint64_t *ids, size_t ids_len,

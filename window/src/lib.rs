@@ -39,8 +39,8 @@
 //! # }
 //! ```
 
-#[cfg(not(target_arch = "x86_64"))]
-compile_error!("libhost.a is for x86-64: tools/cargo-x86-64 builds for it on other machines too");
+#[cfg(not(all(target_arch = "x86_64", target_os = "linux")))]
+compile_error!("libhost.a is for x86-64 Linux: tools/cargo-x86-64 builds for it on aarch64 too");
 
 pub mod bounds;
 pub mod host;

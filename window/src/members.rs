@@ -1,14 +1,14 @@
 //! A set's numbers: out of it one by one, and into it from an iterator.
 
 use crate::host;
-use crate::set::{fit, BitSet};
+use crate::set::{fit, BitSet, SHOWN};
 use std::iter::{Enumerate, FusedIterator, Take};
-use std::{array, slice};
+use std::{array, fmt, slice};
 
 const WORD: usize = u64::BITS as usize;
 
 /// The numbers of a set in rising order, from [`BitSet::iter`]. Each word's numbers are listed by the proved call as the iterator comes to the word.
-#[derive(Clone, Debug)]
+#[derive(Clone)]
 pub struct Iter<'a> {
     words: Enumerate<slice::Iter<'a, u64>>,
     /// Those of the word come to last.
@@ -55,6 +55,17 @@ impl Iterator for Iter<'_> {
 }
 
 impl ExactSizeIterator for Iter<'_> {}
+
+/// How many numbers are still to come, and the first few.
+impl fmt::Debug for Iter<'_> {
+    fn fmt(&self, f: &mut fmt::Formatter) -> fmt::Result {
+        let first: Vec<u64> = self.clone().take(SHOWN).collect();
+        f.debug_struct("Iter")
+            .field("left", &self.left)
+            .field("first", &first)
+            .finish()
+    }
+}
 
 impl FusedIterator for Iter<'_> {}
 
@@ -146,6 +157,18 @@ mod tests {
             assert_eq!(iter.len(), left);
         }
         assert_eq!((iter.next(), iter.next(), iter.len()), (None, None, 0));
+        Ok(())
+    }
+
+    #[test]
+    fn shown_in_one_short_line() -> Result<(), Refusal> {
+        let set = BitSet::ones(MAX_BITS)?;
+        let mut iter = set.iter();
+        iter.next();
+        let wanted = "Iter { left: 16777215, first: [1, 2, 3, 4, 5, 6, 7, 8] }";
+        assert_eq!(format!("{iter:?}"), wanted);
+        assert_eq!(iter.next(), Some(1));
+        assert_eq!(format!("{:?}", BitSet::empty(9)?.iter()), "Iter { left: 0, first: [] }");
         Ok(())
     }
 

@@ -44,7 +44,8 @@ impl Room {
         first.plus(Room::of_level(MIN_BITS).times(LEVEL_LIMIT))
     }
 
-    /// Enough for any ids: no level is larger than the first. No build in it is refused with 5.
+    /// Enough for any ids: no level is larger than the first. No build in it is refused with 5. For a few ids it is a little less than
+    /// [`Room::likely`], which does no harm.
     pub fn enough(ids: usize, gamma: f64) -> Room {
         Room::of_first_level(ids, gamma).times(LEVEL_LIMIT)
     }

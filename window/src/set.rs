@@ -6,7 +6,7 @@ use crate::room::words_for;
 use std::fmt;
 
 /// How many numbers `Debug` shows.
-const SHOWN: usize = 8;
+pub(crate) const SHOWN: usize = 8;
 
 /// A set of numbers below a capacity, one bit each.
 ///

@@ -61,6 +61,34 @@ static void short_outs(void) {
     CHECK(words[0] == 2 && out[0] == 9);
 }
 
+static int all(const uint64_t *store, size_t places, uint64_t number) {
+    for (size_t i = 0; i < places; i++)
+        if (store[i] != number)
+            return 0;
+    return 1;
+}
+
+/* A build that is refused with 1 to 4 changes nothing but out: 0 and a head of zeros. With 5 and 6 the value stands there, and the stores are 0. */
+static void refused_builds(void) {
+    const uint64_t ids[2] = {7, 7}, refusals[5] = {1, 2, 4, 5, 6}, values[5] = {0, 0, 0, 1, 2};
+    const double gammas[5] = {1, 17, 2, 2, 2};
+    const size_t rests[5] = {2, 2, 1, 2, 2}, lengths[5] = {400, 400, 400, 4, 400};
+    static uint64_t words[400], samples[100], many[SHAWLTIDE_MAX_IDS + 1];
+    uint64_t collide[4], rest[2], out[SHAWLTIDE_OUT + 1];
+    for (int i = 0; i < 5; i++) {
+        memset(words, 1, sizeof words), memset(samples, 1, sizeof samples), memset(collide, 1, sizeof collide);
+        memset(rest, 1, sizeof rest), memset(out, 1, sizeof out);
+        const uint64_t before = out[0], after = i < 3 ? before : 0;
+        CHECK(SHAWLTIDE_REFUSAL(shawltide_build(gammas[i], ids, 2, words, lengths[i], samples, 100, collide, 4, rest, rests[i], out, SHAWLTIDE_OUT + 1)) == refusals[i]);
+        CHECK(out[0] == values[i] && all(out + 1, SHAWLTIDE_HEAD, 0) && out[SHAWLTIDE_OUT] == before);
+        CHECK(all(words, lengths[i], after) && all(samples, 100, after) && all(collide, 4, after) && all(rest, rests[i], after));
+    }
+    memset(words, 1, sizeof words), memset(out, 1, sizeof out);
+    const uint64_t before = out[0];
+    CHECK(SHAWLTIDE_REFUSAL(shawltide_build(2, many, SHAWLTIDE_MAX_IDS + 1, words, 400, samples, 100, collide, 4, rest, 2, out, SHAWLTIDE_OUT)) == SHAWLTIDE_TOO_MANY_IDS);
+    CHECK(all(out, SHAWLTIDE_OUT, 0) && all(words, 400, before));
+}
+
 static uint64_t *store(size_t places) {
     uint64_t *store = malloc(places * sizeof *store);
     if (store == NULL) {
@@ -98,13 +126,14 @@ static uint64_t enough(double gamma, const uint64_t *ids, size_t n, uint64_t *va
     return built(gamma, ids, n, SHAWLTIDE_ENOUGH_WORDS(n, gamma), SHAWLTIDE_ENOUGH_SAMPLES(n, gamma), value);
 }
 
-/* Different ids are built in either room. Each id given twice does not fit the likely room, and then remains. */
+/* Different ids are built in either room, also the few for which the likely one is the larger. Each id given twice does not fit the likely room, and then remains. */
 static void rooms(void) {
     static uint64_t ids[4000];
     const double gammas[4] = {1.0100000000000002, SHAWLTIDE_GAMMA, 2, SHAWLTIDE_MAX_GAMMA};
     uint64_t value;
     for (size_t i = 0; i < 4000; i++)
         ids[i] = (i + 1) * UINT64_C(0x9E3779B97F4A7C15);
+    CHECK(SHAWLTIDE_LIKELY_WORDS(1, 2.0) > SHAWLTIDE_ENOUGH_WORDS(1, 2.0));
     for (int i = 0; i < 4; i++)
         for (size_t n = 0; n <= 4000; n = 3 * n + 1) {
             CHECK(likely(gammas[i], ids, n, &value) == 0);
@@ -167,6 +196,7 @@ int main(int words, char **word) {
     results();
     sets();
     short_outs();
+    refused_builds();
     rooms();
     return failed;
 }

@@ -1,5 +1,6 @@
 //! Ids as text.
 
+use crate::quoted::quoted;
 use shawltide::{first_repeat, MAX_IDS};
 use std::fmt;
 use std::io::{self, BufRead, BufReader, Read};
@@ -121,8 +122,8 @@ pub fn parse_id(text: &str) -> Result<u64, Bad> {
 impl fmt::Display for Bad {
     fn fmt(&self, f: &mut fmt::Formatter) -> fmt::Result {
         match self {
-            Bad::NotANumber(text) => write!(f, "{} is not a number", shown(text)),
-            Bad::TooLarge(text) => write!(f, "{} is above 18446744073709551615", shown(text)),
+            Bad::NotANumber(text) => write!(f, "{} is not a number", quoted(text)),
+            Bad::TooLarge(text) => write!(f, "{} is above 18446744073709551615", quoted(text)),
             Bad::TooLong => write!(f, "it is longer than {MOST_BYTES} bytes"),
             Bad::Again(id, first) => write!(f, "{id} stands already on line {first}"),
             Bad::TooMany => write!(f, "there are more than {MAX_IDS} ids"),
@@ -137,14 +138,6 @@ impl fmt::Display for Error {
             Error::Reading(error) => error.fmt(f),
         }
     }
-}
-
-/// The text on one line, quoted, and cut where it is long.
-fn shown(text: &str) -> String {
-    const MOST: usize = 40;
-    let cut: String = text.chars().take(MOST).collect();
-    let more = if cut.len() < text.len() { ".." } else { "" };
-    format!("{cut:?}{more}")
 }
 
 #[cfg(test)]

@@ -1,11 +1,13 @@
 //! The command: ids from a file to rows. `help.txt` says how it is used.
 
 mod input;
+mod quoted;
 mod report;
 mod streams;
 mod words;
 
 use input::{read_ids, Lines};
+use quoted::named;
 use report::Report;
 use shawltide::{Index, FORM};
 use std::ffi::{OsStr, OsString};
@@ -42,7 +44,7 @@ impl Failure {
     }
 
     fn of(which: &OsStr, what: impl Display) -> Failure {
-        Failure::Failed(format!("{}: {what}", which.to_string_lossy()))
+        Failure::Failed(format!("{}: {what}", named(which)))
     }
 }
 
@@ -146,8 +148,8 @@ fn report(file: &OsStr, options: &Options) -> Result<Report, Failure> {
     } else {
         File::open(file)
     };
-    let lines = Lines::new(input.map_err(|error| bad(&error))?);
-    let ids = read_ids(lines, |ids| progress.reading(ids)).map_err(|error| bad(&error))?;
+    let input = input.map_err(|error| bad(&error))?;
+    let ids = read_ids(Lines::new(&input), |ids| progress.reading(&input, ids)).map_err(|error| bad(&error))?;
     progress.building(ids.len());
     let start = Instant::now();
     let index = Index::build(&ids, options.gamma).map_err(|refusal| bad(&refusal))?;

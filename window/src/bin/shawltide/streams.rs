@@ -2,15 +2,20 @@
 
 use std::fs::File;
 use std::io::{self, Write};
-use std::os::raw::c_int;
-use std::os::unix::io::{AsFd, BorrowedFd};
+use std::os::raw::{c_int, c_short, c_ulong};
+use std::os::unix::io::{AsFd, AsRawFd, BorrowedFd};
 use std::sync::atomic::{AtomicBool, Ordering};
 use std::time::{Duration, Instant};
 
 extern "C" {
     fn fcntl(number: c_int, command: c_int, ...) -> c_int;
     fn isatty(number: c_int) -> c_int;
+    fn poll(asked: *mut Poll, count: c_ulong, milliseconds: c_int) -> c_int;
 }
+
+/// What `poll` is asked of a stream: the number, what should happen, what does.
+#[repr(C)]
+struct Poll(c_int, c_short, c_short);
 
 const INPUT: c_int = 0;
 const OUTPUT: c_int = 1;
@@ -59,6 +64,14 @@ fn file(stream: BorrowedFd, closed: &AtomicBool) -> io::Result<File> {
     Ok(File::from(stream.try_clone_to_owned()?))
 }
 
+/// Waits until the input can be read, or so long; says whether it still cannot.
+fn nothing_comes(input: &File, time: Duration) -> bool {
+    const POLLIN: c_short = 1;
+    let mut asked = Poll(input.as_raw_fd(), POLLIN, 0);
+    // SAFETY: poll gets one struct of its own form, and keeps nothing of it.
+    unsafe { poll(&mut asked, 1, time.as_millis() as c_int) == 0 }
+}
+
 /// A line on standard error. Where that is closed or full the line is lost, and the exit status alone says how the command ended.
 pub fn say(line: &str) {
     let _ = io::stderr().write_all(format!("{line}\n").as_bytes());
@@ -86,9 +99,10 @@ impl Progress {
         }
     }
 
-    /// So many ids are read.
-    pub fn reading(&mut self, ids: usize) {
-        if self.on && Instant::now() >= self.next {
+    /// So many ids are read of the input, and more may come.
+    pub fn reading(&mut self, input: &File, ids: usize) {
+        let time = self.next.saturating_duration_since(Instant::now());
+        if self.on && (time.is_zero() || nothing_comes(input, time)) {
             self.next = Instant::now() + Progress::EACH;
             self.show(&format!("reading: {ids} ids"));
         }

@@ -1,6 +1,7 @@
 //! What the words of the command line ask for.
 
 use crate::input::parse_id;
+use crate::quoted::named;
 use crate::Failure;
 use shawltide::{Index, GAMMA};
 use std::ffi::{OsStr, OsString};
@@ -28,17 +29,17 @@ pub struct Options {
 }
 
 pub fn asked(words: &[OsString]) -> Result<Asked, Failure> {
-    let (command, rest) = words
+    let (word, rest) = words
         .split_first()
         .ok_or_else(|| Failure::usage("no command is given"))?;
-    match &*command.to_string_lossy() {
+    match &*word.to_string_lossy() {
         "help" | "--help" | "-h" => Ok(Asked::Help),
         "rows" | "lookup" if wants_help(rest) => Ok(Asked::Help),
         "rows" => rows(rest),
         "lookup" => lookup(rest),
         "--version" if rest.is_empty() => Ok(Asked::Version),
         "--version" => Err(Failure::usage("--version takes no other words")),
-        command => Err(Failure::usage(format!("{command} is not a command"))),
+        _ => Err(Failure::usage(format!("{} is not a command", named(word)))),
     }
 }
 
@@ -92,7 +93,7 @@ fn sorted(rest: &[OsString]) -> Result<(Vec<&OsString>, Options), Failure> {
             ("--quiet", _) => once(&mut quiet, "--quiet", true)?,
             ("--", _) => words.extend(rest.by_ref()),
             (option, _) if option.starts_with('-') && option != "-" => {
-                return Err(Failure::usage(format!("{option} is not known")));
+                return Err(Failure::usage(format!("{} is not known", named(word))));
             }
             _ => words.push(word),
         }
@@ -112,7 +113,7 @@ fn once<T>(place: &mut Option<T>, option: &str, value: T) -> Result<(), Failure>
 fn gamma_of(text: &str) -> Result<f64, Failure> {
     let gamma = text
         .parse()
-        .map_err(|_| Failure::usage(format!("--gamma {text} is not a number")))?;
+        .map_err(|_| Failure::usage(format!("--gamma {} is not a number", named(OsStr::new(text)))))?;
     match Index::build(&[], gamma) {
         Ok(_) => Ok(gamma),
         Err(refusal) => Err(Failure::usage(format!("--gamma {text}: {refusal}"))),
@@ -194,7 +195,7 @@ mod tests {
             ("lookup - -", "FILE and ID cannot both be standard input"),
             ("lookup f 5 -", "\"-\" is not a number"),
             ("rows f --gamma", "--gamma needs a number"),
-            ("rows f --gamma=", "--gamma  is not a number"),
+            ("rows f --gamma=", "--gamma \"\" is not a number"),
             ("rows f --gamma 2 --gamma=2", "--gamma is given twice"),
             ("rows f --quiet --quiet", "--quiet is given twice"),
             ("rows f --quiet=1", "--quiet=1 is not known"),
@@ -205,6 +206,21 @@ mod tests {
         ];
         for (line, message) in cases {
             assert_eq!(refused(line), format!("{message} (see `shawltide help`)"));
+        }
+    }
+
+    #[test]
+    fn odd_words_stay_on_one_line() {
+        let cases: [(&[&str], &str); 4] = [
+            (&[""], "\"\" is not a command"),
+            (&["a\nb"], "\"a\\nb\" is not a command"),
+            (&["rows", "-\u{1b}[2J"], "\"-\\u{1b}[2J\" is not known"),
+            (&["rows", "--gamma", "\r2"], "--gamma \"\\r2\" is not a number"),
+        ];
+        for (words, message) in cases {
+            let words: Vec<OsString> = words.iter().map(OsString::from).collect();
+            let message = format!("{message} (see `shawltide help`)");
+            assert_eq!(asked(&words), Err(Failure::Usage(message)));
         }
     }
 }
