@@ -13,10 +13,10 @@ use lib.Dec.{eqb}
 use lib.ListN.{length, getD, set, drop}
 use lib.Pow.{pow-pos}
 use lib.Seq.{sets, sets-eq}
-use Rattle.laws.specs.Counting.{one, rank, blocks}
+use Rattle.laws.specs.Counting.{one, rank, chain}
 use Rattle.laws.specs.Bits.{digit, has, wordsFor}
 use Rattle.laws.proofs.Sums.{sum-same}
-use Rattle.laws.proofs.Blocks.{length-blocks, blocks-split, blocks-same, blocks-none}
+use Rattle.laws.proofs.Chains.{length-chain, chain-split, chain-same, chain-none}
 use Rattle.laws.proofs.Digits.{digit-lt, down-le, down-same, down-other, one-shl, ones-low, lowest}
 use Rattle.laws.proofs.Words.{has-digit}
 use Rattle.bitvector.specs.Sets.{Plain, rising, setOf}
@@ -44,15 +44,15 @@ places-pop base w h n =
     let v : ℕ = w - 2 ^ t in
     let m : ℕ = 63 - t in
     let e : 64 ≡ suc t + m = omega (arith, low .within) in
-    let here : blocks (place base w) (suc t) ≡ (base + t) ∷ [] =
-    ap₂ (λ (x y : List ℕ). x ++ y) (blocks-none (place base w) t (λ k l. no-place base w k (low .first k l))) (rw (low .set)) in
-    let gone : blocks (place base v) (suc t) ≡ [] =
-    blocks-none (place base v) (suc t) (λ k l. no-place base v k (below k l)) in
-    let above : blocks (λ k. place base w (suc t + k)) m ≡ blocks (λ k. place base v (suc t + k)) m =
-    blocks-same _ _ m (λ k l. ap (λ (d : ℕ). cond (eqb d 1) ((base + (suc t + k)) ∷ []) []) (sym (down-other w t (suc t + k) (low .set) (omega arith)))) in
-    let rest : blocks (place base v) 64 ≡ blocks (λ k. place base v (suc t + k)) m =
-    ap (blocks (place base v)) e ∙ blocks-split (place base v) (suc t) m ∙ ap (λ (l : List ℕ). l ++ blocks (λ k. place base v (suc t + k)) m) gone in
-    ap (blocks (place base w)) e ∙ blocks-split (place base w) (suc t) m ∙ ap₂ (λ (x y : List ℕ). x ++ y) here (above ∙ sym rest)
+    let here : chain (place base w) (suc t) ≡ (base + t) ∷ [] =
+    ap₂ (λ (x y : List ℕ). x ++ y) (chain-none (place base w) t (λ k l. no-place base w k (low .first k l))) (rw (low .set)) in
+    let gone : chain (place base v) (suc t) ≡ [] =
+    chain-none (place base v) (suc t) (λ k l. no-place base v k (below k l)) in
+    let above : chain (λ k. place base w (suc t + k)) m ≡ chain (λ k. place base v (suc t + k)) m =
+    chain-same _ _ m (λ k l. ap (λ (d : ℕ). cond (eqb d 1) ((base + (suc t + k)) ∷ []) []) (sym (down-other w t (suc t + k) (low .set) (omega arith)))) in
+    let rest : chain (place base v) 64 ≡ chain (λ k. place base v (suc t + k)) m =
+    ap (chain (place base v)) e ∙ chain-split (place base v) (suc t) m ∙ ap (λ (l : List ℕ). l ++ chain (λ k. place base v (suc t + k)) m) gone in
+    ap (chain (place base w)) e ∙ chain-split (place base w) (suc t) m ∙ ap₂ (λ (x y : List ℕ). x ++ y) here (above ∙ sym rest)
   where
     below : (k : ℕ) → k < suc (trailingZeros 64 w) → digit (w - 2 ^ trailingZeros 64 w) k ≡ 0
     below k l =
@@ -69,7 +69,7 @@ places-zero base = refl
 pub length-places : (base w : ℕ) → w < 2 ^ 64 → length (places base w) ≡ ones w
 unfolding places
 length-places base w h =
-    length-blocks (place base w) 64 ∙ sum-same _ (λ k. digit w k) 64 (λ k l. go (digit w k) (digit-lt w k) k) ∙ sym (ones-low w 64) ∙ ap ones (mod-eq-of-lt h)
+    length-chain (place base w) 64 ∙ sum-same _ (λ k. digit w k) 64 (λ k l. go (digit w k) (digit-lt w k) k) ∙ sym (ones-low w 64) ∙ ap ones (mod-eq-of-lt h)
   where
     go : (d : ℕ) → d < 2 → (k : ℕ) → length (cond (eqb d 1) ((base + k) ∷ []) []) ≡ d
     go zero l k = refl
@@ -100,7 +100,7 @@ turn w h n =
 -- ---- word by word
 
 pub length-rising : (s : Plain) (n : ℕ) → length (rising s n) ≡ rank s n
-length-rising s n = length-blocks _ n ∙ sum-same _ (λ b. one (s b)) n (λ b l. go b (s b))
+length-rising s n = length-chain _ n ∙ sum-same _ (λ b. one (s b)) n (λ b l. go b (s b))
   where
     go : (b : ℕ) (t : Bool) → length (cond t (b ∷ []) []) ≡ one t
     go b true = refl
@@ -111,9 +111,9 @@ unfolding places
 rising-next ws i =
     let e : 64 * (i + 1) ≡ 64 * i + 64 = omega arith in
     let member : ℕ → List ℕ = λ b. cond (has ws b) (b ∷ []) [] in
-    ap (blocks member) e ∙ blocks-split member (64 * i) 64
+    ap (chain member) e ∙ chain-split member (64 * i) 64
     ∙ ap (λ (l : List ℕ). rising (has ws) (64 * i) ++ l)
-    (blocks-same _ _ 64 (λ k l. ap₂ (λ (t : Bool) (b : ℕ). cond t (b ∷ []) []) (test k l) (ap (λ (b : ℕ). b + k) (mul-comm 64 i))))
+    (chain-same _ _ 64 (λ k l. ap₂ (λ (t : Bool) (b : ℕ). cond t (b ∷ []) []) (test k l) (ap (λ (b : ℕ). b + k) (mul-comm 64 i))))
   where
     back : (t : Bool) → t ≡ eqb (one t) 1
     back true = refl
@@ -141,10 +141,10 @@ module _ (capacity : ℕ) (ws : List ℕ) (s : sound capacity ws ≡ true) where
       let m : ℕ = 64 * wordsFor capacity - capacity in
       let e : 64 * wordsFor capacity ≡ capacity + m = omega arith in
       let member : ℕ → List ℕ = λ b. cond (has ws b) (b ∷ []) [] in
-      ap (blocks member) e ∙ blocks-split member capacity m
+      ap (chain member) e ∙ chain-split member capacity m
       ∙ ap₂ (λ (x y : List ℕ). x ++ y)
-      (blocks-same member _ capacity (λ b l. rw (lt-ltb b capacity l)))
-      (blocks-none (λ k. member (capacity + k)) m (λ k l. rw (stray capacity ws s (capacity + k) (omega arith) (omega arith))))
+      (chain-same member _ capacity (λ b l. rw (lt-ltb b capacity l)))
+      (chain-none (λ k. member (capacity + k)) m (λ k l. rw (stray capacity ws s (capacity + k) (omega arith) (omega arith))))
       ∙ append-nil (rising (setOf capacity ws) capacity)
 
   pub all-listed : (out after : List ℕ) (size : ℕ) → size ≡ rank (has ws) (64 * wordsFor capacity) → size ≤ length out

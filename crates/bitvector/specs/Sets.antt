@@ -4,7 +4,7 @@ use mathlib.Core.Bool.{Bool, false, not, cond, _||_, _&&_, Bool·beq}
 use mathlib.Core.List.{List, [], _∷_, _++_}
 use lib.Dec.{eqb, ltb}
 use lib.ListN.{drop}
-use Rattle.laws.specs.Counting.{rank, blocks}
+use Rattle.laws.specs.Counting.{rank, chain}
 use Rattle.laws.specs.Bits.{has, wordsFor, packed}
 
 -- a set of numbers: whether each is in it
@@ -35,7 +35,7 @@ sameBelow s t n = eqb (rank (λ b. not (Bool·beq (s b) (t b))) n) 0
 
 -- the numbers of a set below n, rising (how many they are is `rank s n`)
 abbrev pub rising : Plain → ℕ → List ℕ
-rising s n = blocks (λ b. cond (s b) (b ∷ []) []) n
+rising s n = chain (λ b. cond (s b) (b ∷ []) []) n
 
 -- the set that words hold: the bits below the capacity that are set
 abbrev pub setOf : ℕ → List ℕ → Plain

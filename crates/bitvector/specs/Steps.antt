@@ -9,7 +9,7 @@ use lib.ListN.{drop}
 use lib.Seq.{sets}
 use Rattle.refusal.specs.declared.Said.{Said}
 use Rattle.refusal.specs.declared.Said.the-variants as S
-use Rattle.laws.specs.Counting.{blocks}
+use Rattle.laws.specs.Counting.{chain}
 use Rattle.laws.specs.Bits.{digit, has, packed}
 use Rattle.bitvector.specs.Sets.{Plain, union, sameBelow}
 
@@ -19,7 +19,7 @@ saidIf b = cond b S.Yes S.No
 
 -- the places of the set digits of a word, rising, the lowest digit's place being base
 unfoldable pub places : ℕ → ℕ → List ℕ
-places base w = blocks (λ k. cond (eqb (digit w k) 1) ((base + k) ∷ []) []) 64
+places base w = chain (λ k. cond (eqb (digit w k) 1) ((base + k) ∷ []) []) 64
 
 -- they stand in the store from `start` on, and the next place is told
 pub record WordListed (base w start : ℕ) (out : List ℕ) (next : ℕ) (after : List ℕ) : Type 0 where

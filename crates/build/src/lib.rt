@@ -4,26 +4,20 @@ ghost use Prim.Native.Nat.{ℕ, _≤_};
 ghost use mathlib.Core.List.{List};
 ghost use lib.ListN.{length};
 ghost use Rattle.laws.specs.Stores.{fronted};
-ghost use Rattle.refusal.specs.declared.Made.the-variants.{Refused};
-ghost use Rattle.head.specs.Index.{noHead};
 ghost use Rattle.run.specs.Stores.{stores};
 ghost use Rattle.build.specs.Build.{builtOf, buildChecks, buildCall};
 ghost use Rattle.build.specs.Ending.{prepared, afterRun, RunRefused};
 use bounds::HEAD_SIZES;
 use bounds::MAX_IDS;
 use head::Head;
+use head::Headed;
+use head::refused;
 use refusal::Made;
 use refusal::Refusal;
 use run::Run;
 use run::build_levels;
 use words::fill;
 use words::u64s;
-
-// What a build answers: the outcome, and beside it the head, which is all 0 where the build is refused.
-pub struct Built {
-    pub outcome: Made,
-    pub head: Head,
-}
 
 // Builds an index of the ids in the word and sample stores. The collide and rest stores are for its work.
 pub fn build(
@@ -33,7 +27,7 @@ pub fn build(
     samples: &mut [u64],
     collide: &mut [u64],
     rest: &mut [u64],
-) -> Built
+) -> Headed
     ensures { λ r. ⌜ builtOf (r .outcome) (r .head) (stores (now (words .exit)) (now (samples .exit)) (now (collide .exit)) (now (rest .exit)))
         ≡ buildCall gamma (now (ids .entry)) (stores (now (words .entry)) (now (samples .entry)) (now (collide .entry)) (now (rest .entry))) ⌝ }
 {
@@ -75,20 +69,6 @@ fn check(gamma: f64, ids: u64, collide: u64, rest: u64) -> Made
     Made::Done
 }
 
-fn refused(why: Refusal) -> Built
-    ensures { λ r. ⌜ (r .outcome ≡ Refused why) × (r .head ≡ noHead) ⌝ }
-{
-    let sizes = [0; HEAD_SIZES];
-    Built {
-        outcome: Made::Refused(why),
-        head: Head {
-            count: 0,
-            levels: 0,
-            sizes,
-        },
-    }
-}
-
 // Clears the stores, and puts the ids at the front of the rest store.
 fn begin(ids: &[u64], words: &mut [u64], samples: &mut [u64], collide: &mut [u64], rest: &mut [u64])
     requires { ⌜ length (now ids) ≤ length (now rest) ⌝ }
@@ -118,12 +98,12 @@ fn end(
     sizes: [u64; HEAD_SIZES],
     words: &mut [u64],
     samples: &mut [u64],
-) -> Built
+) -> Headed
     ensures { λ r. ⌜ ((collide rest : List ℕ) → builtOf (r .outcome) (r .head) (stores (now (words .exit)) (now (samples .exit)) collide rest)
         ≡ afterRun run ids sizes (stores (now (words .entry)) (now (samples .entry)) collide rest)) ⌝ }
 {
     match run {
-        Run::Built(levels) => Built {
+        Run::Built(levels) => Headed {
             outcome: Made::Done,
             head: Head {
                 count: ids,
@@ -137,7 +117,7 @@ fn end(
 }
 
 // A refused run leaves nothing in the index's stores.
-fn refuse_run(why: Refusal, words: &mut [u64], samples: &mut [u64]) -> Built
+fn refuse_run(why: Refusal, words: &mut [u64], samples: &mut [u64]) -> Headed
     ensures { λ r. ⌜ RunRefused why (now (words .entry)) (now (samples .entry))
         (r .outcome) (r .head) (now (words .exit)) (now (samples .exit)) ⌝ }
 {

@@ -1,5 +1,5 @@
 // Builds on both sides of each refusal, in stores that hold 7 everywhere: what each answers, and what it leaves in every store.
-use build::Built;
+use head::Headed;
 use refusal::Made;
 use refusal::Refusal;
 use trial::print::contents;
@@ -17,7 +17,7 @@ const WORDS: usize = 400;
 const SAMPLES: usize = 100;
 
 // The build of two ids at most in these words and samples, for the lines that go on with it.
-pub fn small(gamma: f64, ids: &[u64], words: &mut [u64], samples: &mut [u64]) -> Built {
+pub fn small(gamma: f64, ids: &[u64], words: &mut [u64], samples: &mut [u64]) -> Headed {
     build::build(gamma, ids, words, samples, &mut [7; 4], &mut [7; 2])
 }
 
@@ -81,17 +81,22 @@ fn build_in(
     left(words, samples, collide, rest);
 }
 
-fn answer(built: Built) {
-    let outcome = built.outcome;
-    match outcome {
-        Made::Done => text(b": done"),
-        Made::Refused(reason) => refusal(reason),
-    }
+fn answer(built: Headed) {
+    let made = built.outcome;
+    outcome(made);
     let head = built.head;
     contents(
         b"head",
         &[head.count, head.levels, head.sizes[0], head.sizes[1]],
     );
+}
+
+// A part of a line: the outcome, with the value that it carries.
+pub fn outcome(outcome: Made) {
+    match outcome {
+        Made::Done => text(b": done"),
+        Made::Refused(reason) => refusal(reason),
+    }
 }
 
 fn refusal(reason: Refusal) {

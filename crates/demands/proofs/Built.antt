@@ -13,9 +13,9 @@ use lib.ListN.{length, getD, take, drop, List·getD-append}
 use lib.Seq.{take-at, drop-at}
 use Rattle.bounds.specs.Bounds.{maxIds, levelLimit, sampleBits}
 use Rattle.demands.specs.Levels.{EachLevel, EachLevelLeft, setBefore, samplesBy, FromWords}
-use Rattle.laws.specs.Counting.{sum, blocks}
+use Rattle.laws.specs.Counting.{sum, chain}
 use Rattle.laws.specs.Bits.{has, wordsFor}
-use Rattle.laws.proofs.Blocks.{length-blocks, blocks-at, blocks-same}
+use Rattle.laws.proofs.Chains.{length-chain, chain-at, chain-same}
 use Rattle.laws.proofs.Cases.{Tri, lt, eq, gt, tri}
 use Rattle.laws.proofs.Packing.{packed-has}
 use Rattle.laws.proofs.Sums.{sum-same, sum-ones}
@@ -51,17 +51,17 @@ each-level gamma ids =
 -- ---- one of several lists that lie one after another in a store
 
 block-part : (f : ℕ → List ℕ) (w : ℕ → ℕ) → ((i : ℕ) → length (f i) ≡ w i) → (n i : ℕ) → i < n → (past : List ℕ)
-    → take (w i) (drop (sum w i) (blocks f n ++ past)) ≡ f i
+    → take (w i) (drop (sum w i) (chain f n ++ past)) ≡ f i
 block-part f w e zero i h past = absurd (omega arith)
-block-part f w e (suc n) i h past = rw (append-assoc (blocks f n) (f n) past) (go (tri i n) (λ q. block-part f w e n i q (f n ++ past)))
+block-part f w e (suc n) i h past = rw (append-assoc (chain f n) (f n) past) (go (tri i n) (λ q. block-part f w e n i q (f n ++ past)))
   where
-    len : length (blocks f n) ≡ sum w n
-    len = length-blocks f n ∙ sum-same _ _ n (λ j l. e j)
+    len : length (chain f n) ≡ sum w n
+    len = length-chain f n ∙ sum-same _ _ n (λ j l. e j)
 
-    go : Tri i n → (i < n → take (w i) (drop (sum w i) (blocks f n ++ (f n ++ past))) ≡ f i)
-        → take (w i) (drop (sum w i) (blocks f n ++ (f n ++ past))) ≡ f i
+    go : Tri i n → (i < n → take (w i) (drop (sum w i) (chain f n ++ (f n ++ past))) ≡ f i)
+        → take (w i) (drop (sum w i) (chain f n ++ (f n ++ past))) ≡ f i
     go (lt q) r = r q
-    go (eq q) r = rw q (ap (take (w n)) (drop-at (blocks f n) (f n ++ past) (sum w n) len) ∙ take-at (f n) past (w n) (e n))
+    go (eq q) r = rw q (ap (take (w n)) (drop-at (chain f n) (f n ++ past) (sum w n) len) ∙ take-at (f n) past (w n) (e n))
     go (gt q) r = absurd (omega arith)
 
 -- ---- what the run's end says
@@ -130,7 +130,7 @@ module _ (gamma : Float) (ids : List ℕ) (wordRoom sampleRoom n : ℕ) where
   unfolding indexSizes
   size-is i h =
       List·getD-append (indexSizes rule ids n) _ 0 i (omega (arith, length-sizes rule ids n))
-      ∙ (rw (sum-ones i, add-zero i) at (blocks-at (λ j. Span j ∷ []) (λ j. 1) (λ j. refl) n i 0 h (lit< tt)))
+      ∙ (rw (sum-ones i, add-zero i) at (chain-at (λ j. Span j ∷ []) (λ j. 1) (λ j. refl) n i 0 h (lit< tt)))
 
   start-is : (need : ℕ → ℕ) (i : ℕ) → i ≤ n → start need Size i ≡ start need Span i
   start-is need i h = sum-same _ _ i (λ j l. ap need (size-is j (omega arith)))
@@ -201,7 +201,7 @@ module _ (gamma : Float) (ids : List ℕ) (wordRoom sampleRoom n : ℕ) where
     unfolding indexSamples
     from-words = record {
       level = λ i h. samples-are i h ∙ samples-by i h;
-      store = ap₂ filled (blocks-same _ _ n samples-by) (sym samples-long);
+      store = ap₂ filled (chain-same _ _ n samples-by) (sym samples-long);
     }
 
     module _ (allowed : Allowed gamma) (few : length ids ≤ maxIds) where
@@ -214,11 +214,13 @@ module _ (gamma : Float) (ids : List ℕ) (wordRoom sampleRoom n : ℕ) where
       pub index-fits : fit (length ids) n (builtHead gamma ids n .sizes) (length (wordsIn gamma ids n wordRoom)) (length (samplesIn gamma ids n sampleRoom)) ≡ true
       index-fits =
           rw (words-long, samples-long) (fit-is (length ids) n (builtHead gamma ids n .sizes) wordRoom sampleRoom (record {
-            some-level = done .some-level;
-            few-levels = omega (arith, done .few-levels);
-            size-least = λ i h. rw (size-is i h) (size-least gamma (length (remaining rule ids i)));
-            size-most = λ i h. rw (size-is i h) (size-most gamma (length (remaining rule ids i)) allowed (omega (arith, fewer i)));
-            few-ids = few;
+            bounds = record {
+              some-level = done .some-level;
+              few-levels = omega (arith, done .few-levels);
+              size-least = λ i h. rw (size-is i h) (size-least gamma (length (remaining rule ids i)));
+              size-most = λ i h. rw (size-is i h) (size-most gamma (length (remaining rule ids i)) allowed (omega (arith, fewer i)));
+              few-ids = few;
+            };
             word-room = rw (start-is wordsFor n (omega arith)) (done .in-words);
             sample-room = rw (start-is samplesOfSize n (omega arith)) (done .in-samples);
           }))

@@ -21,8 +21,8 @@ use Rattle.demands.proofs.Built.{Finished, run-done, builtHead, wordsIn
 use Rattle.demands.proofs.Order.{rows-any-order, build-any-order}
 use Rattle.demands.proofs.Room.{accepted, refusals}
 use Rattle.laws.specs.Bits.{wordsFor}
-use Rattle.laws.specs.Counting.{one, tally, count, sift, blocks, Same}
-use Rattle.laws.proofs.Blocks.{blocks-same, blocks-at, length-blocks}
+use Rattle.laws.specs.Counting.{one, tally, count, sift, chain, Same}
+use Rattle.laws.proofs.Chains.{chain-same, chain-at, length-chain}
 use Rattle.laws.proofs.Cases.{Tri, lt, eq, gt, tri, one-eq}
 use Rattle.laws.proofs.Counts.{same-length, length-sift, count-sift, count-at, only}
 use Rattle.laws.proofs.Sums.{sum-ones}
@@ -57,11 +57,11 @@ no-tally f [] e = refl
 no-tally f (x ∷ xs) e = omega (arith, ap one (e x (omega (arith, one-eq x x refl))), no-tally f xs (λ y h. e y (omega arith)))
 
 -- a list by its members
-by-members : (xs : List ℕ) → blocks (λ k. getD xs k 0 ∷ []) (length xs) ≡ xs
+by-members : (xs : List ℕ) → chain (λ k. getD xs k 0 ∷ []) (length xs) ≡ xs
 by-members xs =
-    let len : length (blocks (λ k. getD xs k 0 ∷ []) (length xs)) ≡ length xs = length-blocks _ (length xs) ∙ sum-ones (length xs) in
+    let len : length (chain (λ k. getD xs k 0 ∷ []) (length xs)) ≡ length xs = length-chain _ (length xs) ∙ sum-ones (length xs) in
     ext-getD 0 _ xs len
-    (λ k h. rw (sum-ones k, add-zero k) at (blocks-at (λ j. getD xs j 0 ∷ []) (λ j. 1) (λ j. refl) (length xs) k 0 (omega arith) (lit< tt)))
+    (λ k h. rw (sum-ones k, add-zero k) at (chain-at (λ j. getD xs j 0 ∷ []) (λ j. 1) (λ j. refl) (length xs) k 0 (omega arith) (lit< tt)))
 
 -- ---- answers
 
@@ -107,7 +107,7 @@ module _ (rowFor : ℕ → Option ℕ) (ids list : List ℕ) (once : (x : ℕ) �
 
   listed-is : listed rowFor ids (length ids) ≡ list
   unfolding listed
-  listed-is = blocks-same _ _ (length ids) sent-list ∙ ap (blocks (λ k. getD list k 0 ∷ [])) (sym (same-length same)) ∙ by-members list
+  listed-is = chain-same _ _ (length ids) sent-list ∙ ap (chain (λ k. getD list k 0 ∷ [])) (sym (same-length same)) ∙ by-members list
 
   rows-are : (rows marks : List ℕ) → rowsBy rowFor (length ids) ids rows marks ≡ listedAs list (length ids) rows marks
   unfolding rowsBy
@@ -240,7 +240,7 @@ module _ (gamma : Float) (ids : List ℕ) (s : Stores) where
 
 -- so that there is one sample store of a given length for a head and its words
 pub samples-decided : (head : Head) (words ss ts : List ℕ) → FromWords head words ss → FromWords head words ts → length ss ≡ length ts → ss ≡ ts
-samples-decided head words ss ts e f l = e .store ∙ ap (filled (blocks (samplesBy head words) (head .levels))) l ∙ sym (f .store)
+samples-decided head words ss ts e f l = e .store ∙ ap (filled (chain (samplesBy head words) (head .levels))) l ∙ sym (f .store)
 
 -- ---- no lookup in an index is refused, by the promise of `lookup`: its answer is a row or none
 

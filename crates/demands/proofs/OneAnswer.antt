@@ -10,7 +10,7 @@ use Rattle.refusal.proofs.Apart.{caseOf, numbered}
 use Rattle.refusal.proofs.Once.{Once, made-once}
 use Rattle.run.specs.Stores.{Stores}
 use Rattle.build.specs.Build.{BuildAfter, buildAfter, builtOf, buildCall}
-use Rattle.build.specs.declared.Built.{Built}
+use Rattle.head.specs.declared.Headed.{Headed}
 use Rattle.finding.specs.Find.{Answer, found, nothing, refused, answerOf}
 use Rattle.finding.specs.declared.Found.{Found}
 use Rattle.finding.specs.declared.Found.the-variants as F
@@ -19,7 +19,7 @@ use Rattle.lookup.specs.Lookup.{lookupCall}
 use Rattle.rows.specs.Rows.{RowStores, rowsCall}
 
 -- a build: the outcome and the head, and the four stores
-pub build-once : (gamma : Float) (ids : List ℕ) (s : Stores) (a b : Built) (t u : Stores) → builtOf (a .outcome) (a .head) t ≡ buildCall gamma ids s
+pub build-once : (gamma : Float) (ids : List ℕ) (s : Stores) (a b : Headed) (t u : Stores) → builtOf (a .outcome) (a .head) t ≡ buildCall gamma ids s
     → builtOf (b .outcome) (b .head) u ≡ buildCall gamma ids s → (a ≡ b) × (t ≡ u)
 build-once gamma ids s a b t u e f =
     let same = made-once BuildAfter (buildCall gamma ids s) (a .outcome) (b .outcome) (buildAfter (a .head) t) (buildAfter (b .head) u) e f in

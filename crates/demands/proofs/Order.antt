@@ -14,8 +14,8 @@ use Rattle.bounds.specs.Bounds.{levelLimit}
 use Rattle.demands.specs.Demands.{checksOf, roomIn, SameRoom, SameEnd}
 use Rattle.demands.proofs.Outcomes.{Apart, checks-apart}
 use Rattle.laws.specs.Bits.{wordsFor, packed}
-use Rattle.laws.specs.Counting.{one, rank, blocks, Same}
-use Rattle.laws.proofs.Blocks.{blocks-same}
+use Rattle.laws.specs.Counting.{one, rank, chain, Same}
+use Rattle.laws.proofs.Chains.{chain-same}
 use Rattle.laws.proofs.Cases.{Tri, lt, eq, gt, tri}
 use Rattle.laws.proofs.Counts.{same-total, same-length, same-sift, same-one, length-sift, empty, perm-same}
 use Rattle.build.specs.Build.{BuildEnd, buildChecks, ended, afterChecks, buildCall}
@@ -55,7 +55,7 @@ module _ (row : ℕ → Option ℕ) (count : ℕ) {xs ys : List ℕ} (s : Same x
   same-listed : R.apart row xs count ≡ true → R.listed row xs count ≡ R.listed row ys count
   unfolding R.listed
   same-listed e =
-      blocks-same _ _ count
+      chain-same _ _ count
       (λ k h.
       same-short (same-sift (λ x. R.isRow k (row x)) s)
       (omega (arith, length-sift (λ x. R.isRow k (row x)) xs, apart-known row xs count e .1 k h)))
@@ -88,16 +88,16 @@ module _ (gamma : Float) {xs ys : List ℕ} (s : Same xs ys) where
 
   same-words : (n : ℕ) → indexWords (ruleOf gamma) xs n ≡ indexWords (ruleOf gamma) ys n
   unfolding indexWords
-  same-words n = ap₂ (λ (w : ℕ → ℕ) (b : ℕ → ℕ → Bool). blocks (λ i. packed (wordsFor (w i)) (b i)) n) (same .sizes) (same .bits)
+  same-words n = ap₂ (λ (w : ℕ → ℕ) (b : ℕ → ℕ → Bool). chain (λ i. packed (wordsFor (w i)) (b i)) n) (same .sizes) (same .bits)
 
   same-samples : (n : ℕ) → indexSamples (ruleOf gamma) xs n ≡ indexSamples (ruleOf gamma) ys n
   unfolding indexSamples
   same-samples n =
-      ap₂ (λ (w : ℕ → ℕ) (b : ℕ → ℕ → Bool). blocks (λ i. samplesOf (base w b i) (packed (wordsFor (w i)) (b i))) n) (same .sizes) (same .bits)
+      ap₂ (λ (w : ℕ → ℕ) (b : ℕ → ℕ → Bool). chain (λ i. samplesOf (base w b i) (packed (wordsFor (w i)) (b i))) n) (same .sizes) (same .bits)
 
   same-sizes : (n : ℕ) → indexSizes (ruleOf gamma) xs n ≡ indexSizes (ruleOf gamma) ys n
   unfolding indexSizes
-  same-sizes n = ap (λ (w : ℕ → ℕ). blocks (λ i. w i ∷ []) n) (same .sizes)
+  same-sizes n = ap (λ (w : ℕ → ℕ). chain (λ i. w i ∷ []) n) (same .sizes)
 
   same-ended : (t : Stores) (o : RunEnd) → ended gamma xs t o ≡ ended gamma ys t o
   same-ended t (built n) = rw (same-length s, same-words n, same-samples n, same-sizes n)

@@ -28,7 +28,7 @@ use Rattle.build.specs.Build.{BuildEnd, builtOf, refusedRun, buildChecks, build
 use Rattle.run.specs.Stores.{Stores, stores}
 use Rattle.laws.specs.Stores.{zeros}
 use Rattle.head.specs.Index.{ruleOf, indexWords, indexSamples, indexSizes}
-use Rattle.head.specs.Layout.{fit}
+use Rattle.head.specs.Layout.{bounded, fit}
 use Rattle.finding.specs.Find.{found, nothing, answerOf, rowAnswer, findIn, refusedFor}
 use Rattle.lookup.specs.Lookup.{lookupCall}
 use Rattle.rows.specs.Rows.{rowsCall}
@@ -128,12 +128,12 @@ two-rows f meets = not-all-first gamma pair room (end .after .head) (end .after 
 
 foreign-none : lookupCall (end .after .head) (end .after .stores .words) (end .after .stores .samples) 0 ≡ nothing
 unfolding lt ofBits sizeFor wholeOf rounded buildCall buildChecks runFrom remaining position mixed
-    lookupCall fit findIn first has bitAt packed indexWords indexSizes indexSamples firstSamples
+    lookupCall fit bounded findIn first has bitAt packed indexWords indexSizes indexSamples firstSamples
 foreign-none = refl
 
 foreign-row : lookupCall (end .after .head) (end .after .stores .words) (end .after .stores .samples) 8 ≡ found (record { row = 0; level = 0; position = 16 })
 unfolding lt ofBits sizeFor wholeOf rounded buildCall buildChecks runFrom remaining position mixed
-    lookupCall fit findIn first has bitAt packed indexWords indexSizes indexSamples firstSamples rowAnswer onesFrom
+    lookupCall fit bounded findIn first has bitAt packed indexWords indexSizes indexSamples firstSamples rowAnswer onesFrom
 foreign-row = refl
 
 -- ---- one id twice is refused: with 6 in this room, giving 2, and with 5 where there is a word less, giving level 99: more room matters to a 5
@@ -212,12 +212,12 @@ past-index =
 -- with a word of it less the head is unfit, and with other words in it lookups answer otherwise
 used-short : lookupCall (end .after .head) (take 3 (end .after .stores .words)) (end .after .stores .samples) 7 ≡ refusedFor UnfitHead
 unfolding lt ofBits sizeFor wholeOf rounded buildCall buildChecks runFrom remaining position mixed
-    lookupCall fit packed indexWords indexSizes indexSamples firstSamples
+    lookupCall fit bounded packed indexWords indexSizes indexSamples firstSamples
 used-short = refl
 
 used-other : lookupCall (end .after .head) (zeros 4) (zeros 1) 7 ≡ nothing
 unfolding lt ofBits sizeFor wholeOf rounded buildCall buildChecks runFrom remaining position mixed
-    lookupCall fit findIn first has bitAt packed indexWords indexSizes indexSamples firstSamples
+    lookupCall fit bounded findIn first has bitAt packed indexWords indexSizes indexSamples firstSamples
 used-other = refl
 
 -- ---- room that is always enough

@@ -21,7 +21,7 @@ use Rattle.head.specs.Index.{noHead}
 use Rattle.finding.specs.Find.{found, answerOf}
 use Rattle.lookup.specs.Lookup.{lookupCall}
 use Rattle.head.specs.declared.Head.{Head}
-use Rattle.build.specs.declared.Built.{Built}
+use Rattle.head.specs.declared.Headed.{Headed}
 use Rattle.finding.specs.declared.Found.{Found}
 use Rattle.finding.specs.declared.Found.the-variants as F
 use Rattle.finding.specs.declared.Place.{Place}
@@ -34,7 +34,7 @@ use Rattle.demands.proofs.Twice.{twice-left, twice-full}
 
 -- ---- builds, at three ids of which two share their position in level 0
 
-module _ (a : Built) (t : Stores) (meets : builtOf (a .outcome) (a .head) t ≡ buildCall two three lentThree) where
+module _ (a : Headed) (t : Stores) (meets : builtOf (a .outcome) (a .head) t ≡ buildCall two three lentThree) where
   -- the whole outcome is decided
   pub three-only : (a ≡ threeBuilt) × (t ≡ threeLeft)
   three-only = build-once two three lentThree a threeBuilt t threeLeft meets three-built
@@ -49,7 +49,7 @@ module _ (a : Built) (t : Stores) (meets : builtOf (a .outcome) (a .head) t ≡ 
   -- one that returns an empty head
   pub not-empty : a .head ≡ noHead → ⊥
   not-empty e =
-      let z : _≡_ {A = ℕ} 0 3 = sym (ap (λ (h : Head). h .count) e) ∙ ap (λ (b : Built). b .head .count) (three-only .0) in
+      let z : _≡_ {A = ℕ} 0 3 = sym (ap (λ (h : Head). h .count) e) ∙ ap (λ (b : Headed). b .head .count) (three-only .0) in
       omega arith
 
   -- one that writes nothing
@@ -68,7 +68,7 @@ module _ (a : Built) (t : Stores) (meets : builtOf (a .outcome) (a .head) t ≡ 
 -- ---- builds, at any id given twice
 
 module _ (x : ℕ) (s : Stores) (in-collide : 4 ≤ length (s .collide)) (in-rest : 2 ≤ length (s .rest)) (in-samples : length (s .samples) ≡ 100) where
-  module _ (a : Built) (t : Stores) (meets : builtOf (a .outcome) (a .head) t ≡ buildCall two (x ∷ x ∷ []) s) where
+  module _ (a : Headed) (t : Stores) (meets : builtOf (a .outcome) (a .head) t ≡ buildCall two (x ∷ x ∷ []) s) where
     -- the whole outcome is decided, in 399 words and in 400
     pub full-only : length (s .words) ≡ 399 → (a ≡ refusedWith (NoRoomForLevel 99)) × (t ≡ cleared s)
     full-only h = build-once two (x ∷ x ∷ []) s a (refusedWith (NoRoomForLevel 99)) t (cleared s) meets (sym (twice-full x s in-collide in-rest h in-samples))

@@ -10,7 +10,7 @@ use lib.Ieee.{Float}
 use lib.ListN.{length, take, drop, length-append, List·getD-append}
 use lib.Seq.{ext-getD, getD-take, getD-drop, length-take-le}
 use Rattle.demands.specs.Demands.{Lookups, IndexRows, Indexed}
-use Rattle.demands.specs.Rooms.{usedWords, usedSamples, SameFront, SameUsed, SameReads, withStores, cut}
+use Rattle.demands.specs.Rooms.{SameFront, SameUsed, SameReads, withStores, cut}
 use Rattle.demands.proofs.Demand3.{demand3, never-refused}
 use Rattle.laws.specs.Bits.{has, wordsFor}
 use Rattle.laws.proofs.Parts.{length-part}
@@ -18,7 +18,7 @@ use Rattle.laws.proofs.Sums.{sum-mono}
 use Rattle.mixer.specs.Position.{position}
 use Rattle.build.specs.Build.{BuildEnd, buildCall}
 use Rattle.run.specs.Stores.{Stores}
-use Rattle.head.specs.Layout.{samplesOfSize, sizeAt, levelWords, levelSamples, fit}
+use Rattle.head.specs.Layout.{samplesOfSize, sizeAt, levelWords, levelSamples, usedWords, usedSamples, fit}
 use Rattle.finding.specs.Find.{Answer, rowAnswer, levelAnswer, findIn}
 use Rattle.lookup.specs.Lookup.{lookupCall}
 use Rattle.refusal.specs.Answers.{Outcome}

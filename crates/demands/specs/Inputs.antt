@@ -8,7 +8,7 @@ use Rattle.refusal.specs.declared.Refusal.{Refusal}
 use Rattle.run.specs.Stores.{Stores, stores}
 use Rattle.laws.specs.Stores.{zeros, filled}
 use Rattle.head.specs.Index.{noHead}
-use Rattle.build.specs.declared.Built.{Built}
+use Rattle.head.specs.declared.Headed.{Headed}
 use Rattle.finding.specs.declared.Place.{Place}
 
 -- the f64s 1.5 and 2.0
@@ -29,7 +29,7 @@ abbrev pub lentThree : Stores
 lentThree = stores (zeros 8) (zeros 2) (zeros 4) (zeros 3)
 
 -- the answer, and the stores after it
-abbrev pub threeBuilt : Built
+abbrev pub threeBuilt : Headed
 threeBuilt = record { outcome = Done; head = record { count = 3; levels = 2; sizes = filled (255 ∷ 255 ∷ []) headSizes } }
 
 abbrev pub threeLeft : Stores
@@ -44,7 +44,7 @@ pair = 1 ∷ 2 ∷ []
 abbrev pub lentPair : Stores
 lentPair = stores (zeros 4) (zeros 1) (zeros 4) (zeros 2)
 
-abbrev pub pairBuilt : Built
+abbrev pub pairBuilt : Headed
 pairBuilt = record { outcome = Done; head = record { count = 2; levels = 1; sizes = filled (255 ∷ []) headSizes } }
 
 abbrev pub pairLeft : Stores
@@ -57,7 +57,32 @@ firstPlace = record { row = 0; level = 0; position = 139 }
 abbrev pub secondPlace : Place
 secondPlace = record { row = 1; level = 0; position = 197 }
 
+-- ---- no ids and one id at gamma 2.0
+
+-- an index of no ids has a level too
+abbrev pub lentNone : Stores
+lentNone = stores (zeros 4) (zeros 1) (zeros 4) []
+
+abbrev pub noneBuilt : Headed
+noneBuilt = record { outcome = Done; head = record { count = 0; levels = 1; sizes = filled (255 ∷ []) headSizes } }
+
+abbrev pub noneLeft : Stores
+noneLeft = stores (zeros 4) (zeros 1) (zeros 4) []
+
+-- the one id 1 has the position 139
+abbrev pub one : List ℕ
+one = 1 ∷ []
+
+abbrev pub lentOne : Stores
+lentOne = stores (zeros 4) (zeros 1) (zeros 4) (zeros 1)
+
+abbrev pub oneBuilt : Headed
+oneBuilt = record { outcome = Done; head = record { count = 1; levels = 1; sizes = filled (255 ∷ []) headSizes } }
+
+abbrev pub oneLeft : Stores
+oneLeft = stores (0 ∷ 0 ∷ 2 ^ 11 ∷ 0 ∷ []) (0 ∷ []) (zeros 4) (zeros 1)
+
 -- ---- refused builds
 
-abbrev pub refusedWith : Refusal → Built
+abbrev pub refusedWith : Refusal → Headed
 refusedWith why = record { outcome = Refused why; head = noHead }

@@ -4,7 +4,7 @@ use mathlib.Core.List.{List}
 use Prim.Native.Nat.{ℕ, suc, _+_, _≤_, _<_}
 use lib.Ieee.{Float}
 use lib.ListN.{length}
-use Rattle.laws.specs.Counting.{sum, blocks}
+use Rattle.laws.specs.Counting.{sum, chain}
 use Rattle.laws.specs.Stores.{filled}
 use Rattle.head.specs.Index.{ruleOf}
 use Rattle.head.specs.Layout.{sizeAt, levelWords, levelSamples}
@@ -42,4 +42,4 @@ module _ (head : Head) (words : List ℕ) where
 -- Each level's part of the sample store, and the whole store, as the head and the words alone give them.
 pub record FromWords (head : Head) (words samples : List ℕ) : Type 0 where
   pub level : (i : ℕ) → i < head .levels → levelSamples (sizeAt (head .sizes)) samples i ≡ samplesBy head words i
-  pub store : samples ≡ filled (blocks (samplesBy head words) (head .levels)) (length samples)
+  pub store : samples ≡ filled (chain (samplesBy head words) (head .levels)) (length samples)

@@ -7,7 +7,7 @@ use lib.ListN.{length, getD, take}
 use Rattle.build.specs.Build.{BuildEnd, buildAfter, buildCall}
 use Rattle.run.specs.Stores.{Stores, stores}
 use Rattle.laws.specs.Stores.{filled}
-use Rattle.head.specs.Layout.{sizeAt, wordStart, sampleStart}
+use Rattle.head.specs.Layout.{usedWords, usedSamples}
 use Rattle.lookup.specs.Lookup.{lookupCall}
 use Rattle.rows.specs.Rows.{rowsCall}
 use Rattle.head.specs.declared.Head.{Head}
@@ -34,13 +34,6 @@ pub record MoreRoom (gamma : Float) (ids : List ℕ) (s t : Stores) : Type 0 whe
       → EndsAs t (buildCall gamma ids s) (buildCall gamma ids t)
 
 -- ---- only the used part of the stores matters
-
--- how many words and samples the sizes of a head ask for
-abbrev pub usedWords : Head → ℕ
-usedWords head = wordStart (sizeAt (head .sizes)) (head .levels)
-
-abbrev pub usedSamples : Head → ℕ
-usedSamples head = sampleStart (sizeAt (head .sizes)) (head .levels)
 
 -- two stores have at least n places, and the same number in each of the first n
 pub record SameFront (n : ℕ) (us vs : List ℕ) : Type 0 where

@@ -58,8 +58,8 @@ pub record Turn (sizes ws ss : List ℕ) (i at sampled taken : ℕ) : Type 0 whe
 pub turn : (count levels : ℕ) (sizes ws ss : List ℕ) (i at sampled taken : ℕ) → Fit count levels sizes (length ws) (length ss) → i < levels
     → Walk sizes i at sampled → taken ≡ wordsFor (sizeAt sizes i) → Turn sizes ws ss i at sampled taken
 turn count levels sizes ws ss i at sampled taken f h w e = record {
-  positive = omega (arith, f .size-least i h);
-  small = f .size-most i h;
+  positive = omega (arith, f .bounds .size-least i h);
+  small = f .bounds .size-most i h;
   word-room = omega (arith, f .word-room, w .words-are, sum-mono (λ j. wordsFor (sizeAt sizes j)) {m = suc i} {n = levels} h);
   sample-room = omega (arith, f .sample-room, w .samples-are, sum-mono (λ j. samplesOfSize (sizeAt sizes j)) {m = suc i} {n = levels} h);
   words-are = ap₂ (λ (n k : ℕ). take n (drop k ws)) e (w .words-are);

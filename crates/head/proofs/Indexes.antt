@@ -9,7 +9,7 @@ use lib.ListN.{length, drop, set, length-append, length-replicate, replicate-app
 use lib.Seq.{take-at, drop-at, set-append-seam}
 use Rattle.laws.specs.Bits.{wordsFor}
 use Rattle.laws.proofs.Sums.{sum-same, sum-ones}
-use Rattle.laws.proofs.Blocks.{length-blocks}
+use Rattle.laws.proofs.Chains.{length-chain}
 use Rattle.laws.proofs.Packing.{length-packed}
 use Rattle.laws.proofs.Parts.{drop-same}
 use Rattle.mixer.proofs.Positions.{position-lt}
@@ -71,15 +71,15 @@ module _ (rule : Rule) (ids : List ℕ) where
 
   pub length-words : (i : ℕ) → length (indexWords rule ids i) ≡ wordStart (span rule ids) i
   unfolding indexWords
-  length-words i = length-blocks (wordsAt rule ids) i ∙ sum-same _ _ i (λ j h. length-words-at j)
+  length-words i = length-chain (wordsAt rule ids) i ∙ sum-same _ _ i (λ j h. length-words-at j)
 
   pub length-samples-to : (i : ℕ) → length (indexSamples rule ids i) ≡ sampleStart (span rule ids) i
   unfolding indexSamples
-  length-samples-to i = length-blocks (samplesAt rule ids) i ∙ sum-same _ _ i (λ j h. length-samples-at j)
+  length-samples-to i = length-chain (samplesAt rule ids) i ∙ sum-same _ _ i (λ j h. length-samples-at j)
 
   pub length-sizes : (i : ℕ) → length (indexSizes rule ids i) ≡ i
   unfolding indexSizes
-  length-sizes i = length-blocks (λ j. span rule ids j ∷ []) i ∙ sum-ones i
+  length-sizes i = length-chain (λ j. span rule ids j ∷ []) i ∙ sum-ones i
 
   -- one level more
   pub words-next : (i : ℕ) → indexWords rule ids (suc i) ≡ indexWords rule ids i ++ wordsAt rule ids i

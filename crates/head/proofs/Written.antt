@@ -1,7 +1,7 @@
 -- The head as numbers: what reading and writing them one by one comes to.
 use mathlib.Core.Path.{_≡_, sym, ap, _∙_}
 use mathlib.Core.List.{List, [], _∷_, _++_}
-use Prim.Native.Nat.{ℕ, suc, _+_, _≤_, _<_}
+use Prim.Native.Nat.{ℕ, suc, _+_, _-_, _≤_, _<_}
 use native.Mathlib.Omega.{arith}
 use lib.ListN.{length, getD, set, take, drop, length-drop}
 use lib.Seq.{take-suc, take-suc-set, take-length, getD-drop, paste, sets, sets-eq, drop-append-add, drop-drop}
@@ -39,3 +39,10 @@ head-written count levels sizes out l h =
     let d : drop headNumbers (front ++ drop headCounts out) ≡ drop headNumbers out = drop-append-add front (drop headCounts out) headSizes ∙ drop-drop headSizes headCounts out in
     let n : length (numbersOf (record { count = count; levels = levels; sizes = sizes })) ≡ headNumbers = omega arith in
     rw (e, t, d) (ap (λ (k : ℕ). count ∷ levels ∷ (sizes ++ drop k out)) (sym n))
+
+-- of the numbers of a head, those past the counts are its sizes
+pub size-at : (count levels : ℕ) (sizes : List ℕ) (i : ℕ) → headCounts ≤ i
+    → getD sizes (i - headCounts) 0 ≡ getD (numbersOf (record { count = count; levels = levels; sizes = sizes })) i 0
+size-at count levels sizes i h =
+    let e : suc (suc (i - headCounts)) ≡ i = omega arith in
+    ap (λ (k : ℕ). getD (count ∷ levels ∷ sizes) k 0) e

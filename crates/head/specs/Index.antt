@@ -4,7 +4,7 @@ use mathlib.Core.List.{List, [], _∷_}
 use lib.Ieee.{Float}
 use lib.ListN.{length}
 use Rattle.bounds.specs.Bounds.{headSizes}
-use Rattle.laws.specs.Counting.{blocks}
+use Rattle.laws.specs.Counting.{chain}
 use Rattle.laws.specs.Bits.{wordsFor, packed}
 use Rattle.laws.specs.Stores.{zeros, filled}
 use Rattle.mixer.specs.Position.{position}
@@ -37,18 +37,18 @@ module _ (rule : Rule) (ids : List ℕ) where
 
   -- the words, the samples and the sizes of the first n levels, one level after another
   unfoldable pub indexWords : ℕ → List ℕ
-  indexWords n = blocks wordsAt n
+  indexWords n = chain wordsAt n
 
   unfoldable pub indexSamples : ℕ → List ℕ
-  indexSamples n = blocks samplesAt n
+  indexSamples n = chain samplesAt n
 
   unfoldable pub indexSizes : ℕ → List ℕ
-  indexSizes n = blocks (λ i. span rule ids i ∷ []) n
+  indexSizes n = chain (λ i. span rule ids i ∷ []) n
 
   -- the head of an index of n levels: unused sizes are 0
   abbrev pub indexHead : ℕ → Head
   indexHead n = record { count = length ids; levels = n; sizes = filled (indexSizes n) headSizes }
 
--- the head of a refused build: all 0
+-- the head beside a refusal: all 0
 abbrev pub noHead : Head
 noHead = record { count = 0; levels = 0; sizes = zeros headSizes }

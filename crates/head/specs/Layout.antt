@@ -4,11 +4,13 @@ use mathlib.Core.Bool.{Bool, not, _&&_}
 use mathlib.Core.List.{List}
 use lib.Dec.{eqb, leb}
 use lib.ListN.{getD, take, drop}
-use Rattle.bounds.specs.Bounds.{maxIds, maxBits, minBits, maxLevels}
-use Rattle.laws.specs.Counting.{rank}
+use Rattle.bounds.specs.Bounds.{maxIds, maxBits, minBits, headSizes, maxLevels}
+use Rattle.laws.specs.Counting.{rank, isClear}
 use Rattle.laws.specs.Bits.{wordsFor}
 use Rattle.rule.specs.Rule.{start}
 use Rattle.sizes.specs.Sizes.{samplesFor}
+use Rattle.head.specs.declared.Head.{Head}
+use Rattle.head.specs.declared.Used.{Used}
 
 -- the samples that a level of a given size takes
 abbrev pub samplesOfSize : ℕ → ℕ
@@ -36,14 +38,29 @@ levelSamples span ss i = take (samplesOfSize (span i)) (drop (sampleStart span i
 abbrev pub sizeFits : ℕ → Bool
 sizeFits size = leb minBits size && leb size maxBits
 
--- Whether a head fits its bounds and stores of so many words and samples: at least one level and no more than a head may name, each used size within its bounds, the id count within its bound, and
--- stores as long as the sizes ask. Refusal 7 is given where it does not.
-unfoldable pub fit : ℕ → ℕ → List ℕ → ℕ → ℕ → Bool
-fit count levels sizes wordRoom sampleRoom =
-    let span = sizeAt sizes in
+-- Whether the numbers of a head keep their bounds: at least one level and no more than a head may name, each used size within its bounds, the id count within its bound.
+unfoldable pub bounded : ℕ → ℕ → List ℕ → Bool
+bounded count levels sizes =
     leb 1 levels
     && leb levels maxLevels
-    && eqb (rank (λ i. not (sizeFits (span i))) levels) 0
+    && eqb (rank (λ i. not (sizeFits (sizeAt sizes i))) levels) 0
     && leb count maxIds
-    && leb (wordStart span levels) wordRoom
-    && leb (sampleStart span levels) sampleRoom
+
+-- how many words and samples the levels of a head use
+abbrev pub usedOf : ℕ → List ℕ → Used
+usedOf levels sizes = record { words = wordStart (sizeAt sizes) levels; samples = sampleStart (sizeAt sizes) levels }
+
+abbrev pub usedWords : Head → ℕ
+usedWords head = usedOf (head .levels) (head .sizes) .words
+
+abbrev pub usedSamples : Head → ℕ
+usedSamples head = usedOf (head .levels) (head .sizes) .samples
+
+-- whether each size past the levels of a head is 0
+abbrev pub unusedClear : ℕ → List ℕ → Bool
+unusedClear levels sizes = isClear (sizeAt sizes) levels headSizes
+
+-- Whether a head keeps its bounds and fits stores of so many words and samples: they are as long as the sizes ask. Refusal 7 is given where it does not.
+unfoldable pub fit : ℕ → ℕ → List ℕ → ℕ → ℕ → Bool
+fit count levels sizes wordRoom sampleRoom =
+    bounded count levels sizes && leb (usedOf levels sizes .words) wordRoom && leb (usedOf levels sizes .samples) sampleRoom

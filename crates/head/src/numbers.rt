@@ -1,7 +1,7 @@
 // A head as numbers, one after another: id count, level count, sizes.
 ghost use mathlib.Core.Path.{_≡_};
-ghost use Prim.Native.Nat.{_≤_};
-ghost use lib.ListN.{length};
+ghost use Prim.Native.Nat.{_≤_, _<_};
+ghost use lib.ListN.{length, getD};
 ghost use Rattle.bounds.specs.Bounds.{headSizes};
 ghost use Rattle.laws.specs.Stores.{fronted};
 ghost use Rattle.head.specs.Numbers.{headNumbers, headOf, numbersOf};
@@ -40,4 +40,18 @@ pub fn write(count: u64, levels: u64, sizes: &[u64; HEAD_SIZES], out: &mut [u64]
     for i in 0..HEAD_SIZES {
         out[COUNTS + i] = sizes[i];
     }
+}
+
+// Number i of a head.
+pub fn at(count: u64, levels: u64, sizes: &[u64; HEAD_SIZES], i: usize) -> u64
+    requires { ⌜ (length (now sizes) ≡ headSizes) × (i < headNumbers) ⌝ }
+    ensures { λ r. ⌜ r ≡ getD (numbersOf (record { count = count; levels = levels; sizes = now (sizes .entry) })) i 0 ⌝ }
+{
+    if i == 0 {
+        return count;
+    }
+    if i == 1 {
+        return levels;
+    }
+    sizes[i - COUNTS]
 }

@@ -103,7 +103,7 @@ module _ (head : Head) (ws ss : List ℕ) (x : ℕ) where
     where
       go : (b : Bool) → fits ≡ b → r < maxIds
       go true h =
-          let few = fit-known (head .count) (head .levels) (head .sizes) (length ws) (length ss) h .few-ids in
+          let few = fit-known (head .count) (head .levels) (head .sizes) (length ws) (length ss) h .bounds .few-ids in
           omega (arith, few, found-below _ (head .count) (sizeAt (head .sizes)) ws ss x (head .levels) r (ap rowIn (lookup-fit head ws ss x h) ∙ e))
       go false h =
           let q : rowIn (refusedFor UnfitHead) ≡ some r = ap rowIn (lookup-unfit head ws ss x h) ∙ e in

@@ -37,6 +37,11 @@ pub both : (s t : Bool) → s && t ≡ true → (s ≡ true) × (t ≡ true)
 both true t e = (refl, e)
 both false t e = (e, absurd (false≢true e))
 
+-- a test that cannot hold fails
+pub refuted : (t : Bool) → (t ≡ true → ⊥) → t ≡ false
+refuted true n = absurd (n refl)
+refuted false n = refl
+
 -- a test's number gives the test back
 pub one-inj : (s t : Bool) → one s ≡ one t → s ≡ t
 one-inj true true e = refl

@@ -1,9 +1,12 @@
 pub mod Cases
 pub mod Sums
 pub mod Counts
-pub mod Blocks
+pub mod Chains
+pub mod Clear
 pub mod Digits
 pub mod Words
+pub mod Lists
 pub mod Packing
 pub mod Ones
 pub mod Parts
+pub mod Undone

@@ -12,7 +12,7 @@ use Rattle.laws.specs.Counting.{one}
 use Rattle.laws.specs.Bits.{digit, has, Words, number, wordOf, packed}
 use Rattle.laws.proofs.Cases.{one-inj}
 use Rattle.laws.proofs.Sums.{sum-ones, sum-same}
-use Rattle.laws.proofs.Blocks.{length-blocks, blocks-at, blocks-same}
+use Rattle.laws.proofs.Chains.{length-chain, chain-at, chain-same}
 use Rattle.laws.proofs.Digits.{digits-sum, number-digit, number-low}
 use Rattle.laws.proofs.Words.{has-at, has-digit}
 
@@ -28,11 +28,11 @@ word-has ws i h = number-has ws i 64 (lit≤ tt) ∙ mod-eq-of-lt h
 
 pub length-packed : (n : ℕ) (s : ℕ → Bool) → length (packed n s) ≡ n
 unfolding packed
-length-packed n s = length-blocks _ n ∙ sum-ones n
+length-packed n s = length-chain _ n ∙ sum-ones n
 
 packed-at : (n : ℕ) (s : ℕ → Bool) (i : ℕ) → i < n → getD (packed n s) i 0 ≡ wordOf s i
 unfolding packed
-packed-at n s i l = rw (sum-ones i, add-zero i) at (blocks-at (λ i. wordOf s i ∷ []) (λ i. 1) (λ i. refl) n i 0 l (lit< tt))
+packed-at n s i l = rw (sum-ones i, add-zero i) at (chain-at (λ i. wordOf s i ∷ []) (λ i. 1) (λ i. refl) n i 0 l (lit< tt))
 
 -- read back, they hold the set
 pub packed-has : (n : ℕ) (s : ℕ → Bool) (b : ℕ) → b < 64 * n → has (packed n s) b ≡ s b
@@ -51,7 +51,7 @@ packed-suc n s = refl
 pub packed-below : (n : ℕ) (s t : ℕ → Bool) → ((b : ℕ) → b < 64 * n → s b ≡ t b) → packed n s ≡ packed n t
 unfolding packed
 packed-below n s t e =
-    blocks-same _ _ n (λ i l. ap (λ (w : ℕ). w ∷ []) (sum-same _ _ 64 (λ k m. ap (λ (b : Bool). one b * 2 ^ k) (e (64 * i + k) (omega arith)))))
+    chain-same _ _ n (λ i l. ap (λ (w : ℕ). w ∷ []) (sum-same _ _ 64 (λ k m. ap (λ (b : Bool). one b * 2 ^ k) (e (64 * i + k) (omega arith)))))
 
 -- words of which each has its low t digits set
 pub packed-low : (n t : ℕ) (s : ℕ → Bool) → t ≤ 64 → ((i k : ℕ) → i < n → k < 64 → s (64 * i + k) ≡ ltb k t) → packed n s ≡ replicate n (2 ^ t - 1)

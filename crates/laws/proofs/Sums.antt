@@ -2,7 +2,7 @@
 use mathlib.Core.Path.{_≡_, refl, sym, ap}
 use mathlib.Core.Bool.{Bool, true, false}
 use Prim.Native.Nat.{ℕ, zero, suc, _+_, _*_, _≤_, _<_, zero-le}
-use native.Mathlib.Nat.{mul-zero, add-zero, add-suc, le-step, lt-suc-self}
+use native.Mathlib.Nat.{mul-zero, mul-suc, add-zero, add-suc, le-step, lt-suc-self}
 use native.Mathlib.Decide.{le-ind}
 use native.Mathlib.Omega.{arith}
 use lib.Dec.{eqb, ltb}
@@ -28,6 +28,11 @@ sum-same v w (suc n) e = omega (arith, sum-same v w n (λ p h. e p (omega arith)
 -- the more numbers, the more
 pub sum-mono : (w : ℕ → ℕ) {m n : ℕ} → m ≤ n → sum w m ≤ sum w n
 sum-mono w {m} {n} h = le-ind (λ (k : ℕ). sum w m ≤ sum w k) (omega arith) (λ k l e. omega arith) n h
+
+-- a sum of n numbers none of which is above m
+pub sum-most : (w : ℕ → ℕ) (m n : ℕ) → ((p : ℕ) → p < n → w p ≤ m) → sum w n ≤ m * n
+sum-most w m zero h = omega arith
+sum-most w m (suc n) h = omega (arith, sum-most w m n (λ p l. h p (le-step l)), h n (lt-suc-self n), mul-suc m n)
 
 -- the numbers below m, and n more
 pub sum-split : (w : ℕ → ℕ) (m n : ℕ) → sum w (m + n) ≡ sum w m + sum (λ k. w (m + k)) n

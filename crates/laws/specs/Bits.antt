@@ -4,7 +4,7 @@ use mathlib.Core.Bool.{Bool, cond}
 use mathlib.Core.List.{List, [], _∷_}
 use lib.Dec.{eqb}
 use lib.ListN.{getD, set}
-use Rattle.laws.specs.Counting.{one, sum, blocks}
+use Rattle.laws.specs.Counting.{one, sum, chain}
 
 -- digit k of w: 0 or 1
 abbrev pub digit : ℕ → ℕ → ℕ
@@ -44,4 +44,4 @@ wordOf s i = number (λ k. s (64 * i + k)) 64
 
 -- n words that hold a plain set: bit b is set where s b
 unfoldable pub packed : ℕ → (ℕ → Bool) → List ℕ
-packed n s = blocks (λ i. wordOf s i ∷ []) n
+packed n s = chain (λ i. wordOf s i ∷ []) n

@@ -1,2 +1,3 @@
 pub mod Words
 pub mod Positions
+pub mod OneToOne

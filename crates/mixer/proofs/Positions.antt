@@ -7,7 +7,7 @@ use lib.Bits.{xor-lt}
 use Rattle.mixer.specs.Mixer.{stirred, mixed, seedWord, hashed}
 use Rattle.mixer.specs.Position.{folded, scaled, position}
 
-stirred-lt : (k n : ℕ) → stirred k (n % 2 ^ 64) < 2 ^ 64
+pub stirred-lt : (k n : ℕ) → stirred k (n % 2 ^ 64) < 2 ^ 64
 stirred-lt k n =
     let h : n % 2 ^ 64 < 2 ^ 64 = mod-lt n (pow-pos 64) in
     xor-lt 64 (n % 2 ^ 64) (n % 2 ^ 64 / 2 ^ k) h (lt-of-le-of-lt (shr-le (n % 2 ^ 64) k) h)

@@ -11,7 +11,7 @@ use Rattle.bounds.specs.Bounds.{sampleBits, sampleWords}
 use Rattle.laws.specs.Counting.{rank}
 use Rattle.laws.specs.Bits.{has}
 use Rattle.laws.proofs.Sums.{rank-same, sum-ones}
-use Rattle.laws.proofs.Blocks.{blocks-same, length-blocks, blocks-at}
+use Rattle.laws.proofs.Chains.{chain-same, length-chain, chain-at}
 use Rattle.sizes.specs.Sizes.{samplesFor}
 use Rattle.ranks.specs.Ranks.{firstSamples, samplesOf, onesFrom}
 use Rattle.ranks.specs.Sampling.{withSamples}
@@ -20,7 +20,7 @@ use Rattle.ranks.proofs.Ones.{rank-from}
 module _ (before : ℕ) (ws : List ℕ) where
   pub length-first : (n : ℕ) → length (firstSamples before ws n) ≡ n
   unfolding firstSamples
-  length-first n = length-blocks _ n ∙ sum-ones n
+  length-first n = length-chain _ n ∙ sum-ones n
 
   pub length-samples : length (samplesOf before ws) ≡ samplesFor (length ws)
   length-samples = length-first (samplesFor (length ws))
@@ -29,7 +29,7 @@ module _ (before : ℕ) (ws : List ℕ) where
   pub sample-at : (n j : ℕ) → j < n → getD (firstSamples before ws n) j 0 ≡ before + rank (has ws) (sampleBits * j)
   unfolding firstSamples
   sample-at n j l =
-      rw (sum-ones j, add-zero j) at (blocks-at (λ j. (before + rank (has ws) (sampleBits * j)) ∷ []) (λ j. 1) (λ j. refl) n j 0 l (lit< tt))
+      rw (sum-ones j, add-zero j) at (chain-at (λ j. (before + rank (has ws) (sampleBits * j)) ∷ []) (λ j. 1) (λ j. refl) n j 0 l (lit< tt))
 
   -- a position's sample and the ones from there on are the set bits before it, in all earlier levels and in its own
   pub rank-by-sample : (p : ℕ) → p < 64 * length ws → getD (samplesOf before ws) (p / sampleBits) 0 + onesFrom ws p ≡ before + rank (has ws) p
@@ -43,7 +43,7 @@ pub samples-by-bits : (before : ℕ) (us vs : List ℕ) → length us ≡ length
 unfolding firstSamples
 samples-by-bits before us vs l e =
     ap (λ (n : ℕ). firstSamples before us (samplesFor n)) l
-    ∙ blocks-same _ _ (samplesFor (length vs)) (λ j h. ap (λ (n : ℕ). (before + n) ∷ []) (rank-same _ _ (sampleBits * j) (λ b m. e b (omega arith))))
+    ∙ chain-same _ _ (samplesFor (length vs)) (λ j h. ap (λ (n : ℕ). (before + n) ∷ []) (rank-same _ _ (sampleBits * j) (λ b m. e b (omega arith))))
 
 module _ (before : ℕ) (ws store : List ℕ) where
   -- the level's part of the store is its samples, whatever the store held

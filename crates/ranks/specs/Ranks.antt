@@ -3,7 +3,7 @@ use mathlib.Core.List.{List, [], _∷_}
 use Prim.Native.Nat.{ℕ, _+_, _*_, _/_, _%_}
 use lib.ListN.{length}
 use Rattle.bounds.specs.Bounds.{sampleBits}
-use Rattle.laws.specs.Counting.{rank, blocks}
+use Rattle.laws.specs.Counting.{rank, chain}
 use Rattle.laws.specs.Bits.{has}
 use Rattle.sizes.specs.Sizes.{samplesFor}
 
@@ -14,7 +14,7 @@ setBits ws = rank (has ws) (64 * length ws)
 -- The first n samples of a level with these words, where so many bits are set in all earlier levels: sample j is that number and the set bits in this
 -- level's words before the first that it stands for.
 unfoldable pub firstSamples : ℕ → List ℕ → ℕ → List ℕ
-firstSamples before ws n = blocks (λ j. (before + rank (has ws) (sampleBits * j)) ∷ []) n
+firstSamples before ws n = chain (λ j. (before + rank (has ws) (sampleBits * j)) ∷ []) n
 
 -- all its samples
 abbrev pub samplesOf : ℕ → List ℕ → List ℕ

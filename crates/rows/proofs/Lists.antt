@@ -18,7 +18,7 @@ use Rattle.laws.specs.Counting.{one, sum, rank, sift}
 use Rattle.laws.proofs.Cases.{both, one-lt}
 use Rattle.laws.proofs.Sums.{sum-zero, sum-add, sum-same, sum-point, sum-ones, rank-none, none-rank}
 use Rattle.laws.proofs.Counts.{length-sift}
-use Rattle.laws.proofs.Blocks.{length-blocks, blocks-at}
+use Rattle.laws.proofs.Chains.{length-chain, chain-at}
 use Rattle.rows.specs.Rows.{isNone, isRow, rowless, sent, apart, listed}
 use Rattle.rows.specs.Passes.{withId, withIds}
 
@@ -150,13 +150,13 @@ module _ (row : ℕ → Option ℕ) (count : ℕ) (below : (x r : ℕ) → row x
 
     pub listed-length : length (listed row ids count) ≡ count
     unfolding listed
-    listed-length = length-blocks (sentTo ids) count ∙ lone-sum count (omega arith)
+    listed-length = length-chain (sentTo ids) count ∙ lone-sum count (omega arith)
 
     listed-at : (k : ℕ) → k < count → getD (listed row ids count) k 0 ≡ getD (sentTo ids k) 0 0
     unfolding listed
     listed-at k l =
         rw (lone-sum k (omega arith), add-zero k) at
-        (blocks-at (sentTo ids) (λ j. length (sentTo ids j)) (λ j. refl) count k 0 l (omega (arith, lone k l)))
+        (chain-at (sentTo ids) (λ j. length (sentTo ids j)) (λ j. refl) count k 0 l (omega (arith, lone k l)))
 
     -- at each row stands an id that is sent there
     pub listed-row : (k : ℕ) → k < count → row (getD (listed row ids count) k 0) ≡ some k

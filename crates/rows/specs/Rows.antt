@@ -5,7 +5,7 @@ use mathlib.Core.List.{List, _++_}
 use mathlib.Core.Option.{Option, none, some}
 use lib.Dec.{eqb, leb}
 use lib.ListN.{length, drop}
-use Rattle.laws.specs.Counting.{tally, rank, sift, blocks}
+use Rattle.laws.specs.Counting.{tally, rank, sift, chain}
 use Rattle.laws.specs.Bits.{wordsFor}
 use Rattle.laws.specs.Stores.{zeros}
 use Rattle.refusal.specs.Answers.{Outcome, answered, refused, check}
@@ -42,7 +42,7 @@ module _ (row : ℕ → Option ℕ) (ids : List ℕ) where
 
   -- the row list: at each row the id that is sent there
   unfoldable pub listed : ℕ → List ℕ
-  listed count = blocks (λ k. sift (λ x. isRow k (row x)) ids) count
+  listed count = chain (λ k. sift (λ x. isRow k (row x)) ids) count
 
 -- ---- the call
 

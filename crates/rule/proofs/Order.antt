@@ -4,9 +4,9 @@ use mathlib.Core.Bool.{Bool, true, false, cond, _&&_}
 use mathlib.Core.List.{List, [], List·Permᴰ}
 use Prim.Native.Nat.{ℕ, zero, suc}
 use lib.Dec.{eqb, leb}
-use Rattle.laws.specs.Counting.{sift, blocks, Same}
+use Rattle.laws.specs.Counting.{sift, chain, Same}
 use Rattle.laws.proofs.Counts.{same-length, same-sift, same-one, length-sift, perm-same}
-use Rattle.laws.proofs.Blocks.{blocks-same}
+use Rattle.laws.proofs.Chains.{chain-same}
 use Rattle.rule.specs.Rule.{Rule, single, rest, remaining, span, bit, start, Room, idsLeft, fits, runFrom, lookup, atBit, inLevel}
 use Rattle.rule.specs.Demand.{SameIndex}
 use Rattle.rule.proofs.Level.{set-one, same-single, same-rest}
@@ -52,7 +52,7 @@ module _ (rule : Rule) {xs ys : List ℕ} (s : Same xs ys) where
       go false e = refl
 
   same-in : (i : ℕ) → inLevel rule xs i ≡ inLevel rule ys i
-  same-in i = ap₂ (λ (f : ℕ → List ℕ) (n : ℕ). blocks f n) (fun-ext (same-at i)) (ap (rule .size) (same-length (same-left i)))
+  same-in i = ap₂ (λ (f : ℕ → List ℕ) (n : ℕ). chain f n) (fun-ext (same-at i)) (ap (rule .size) (same-length (same-left i)))
 
   pub same-index : SameIndex rule xs ys
   same-index = record {
@@ -60,7 +60,7 @@ module _ (rule : Rule) {xs ys : List ℕ} (s : Same xs ys) where
     bits = same-bit;
     runs = λ room. fun-ext (λ limit. same-run room limit 0);
     finds = ap₂ (λ (w : ℕ → ℕ) (b : ℕ → ℕ → Bool). lookup (rule .pos) w b) same-span same-bit;
-    lists = fun-ext (λ n. blocks-same _ _ n (λ i h. same-in i));
+    lists = fun-ext (λ n. chain-same _ _ n (λ i h. same-in i));
   }
 
 -- a rearrangement, as mathlib has it, has the same members

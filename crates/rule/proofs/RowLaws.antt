@@ -14,7 +14,7 @@ use Rattle.laws.specs.Counting.{one, sum, rank, count, sift, Same}
 use Rattle.laws.proofs.Cases.{Tri, lt, eq, gt, tri, one-eq, one-lt}
 use Rattle.laws.proofs.Sums.{sum-same, sum-mono, sum-point, part, part-one, rank-lt, rank-inj, select}
 use Rattle.laws.proofs.Counts.{total-append, same-length, length-sift, count-sift, pick, count-two, only}
-use Rattle.laws.proofs.Blocks.{total-blocks, length-blocks, blocks-at}
+use Rattle.laws.proofs.Chains.{total-chain, length-chain, chain-at}
 use Rattle.rule.specs.Rule.{Rule, remaining, span, bit, ones, base, rowAt, RowPlace, first, place, find, row, atBit, inLevel, rowList}
 use Rattle.rule.specs.Demand.{Sound, Before, by-level, by-position, Perfect}
 use Rattle.rule.proofs.Level.{set-one, one-id}
@@ -145,17 +145,17 @@ module _ (rule : Rule) (ids : List ℕ) where
 
     -- a level lists its set bits
     in-length : (i : ℕ) → length (inLevel rule ids i) ≡ Ones i
-    in-length i = length-blocks (atBit rule ids i) (Span i) ∙ sum-same _ _ (Span i) (λ p h. at-length i p)
+    in-length i = length-chain (atBit rule ids i) (Span i) ∙ sum-same _ _ (Span i) (λ p h. at-length i p)
 
     in-sits : {x j : ℕ} → Sits x j → getD (inLevel rule ids j) (rank (Bits j) (Spot j x)) 0 ≡ x
     in-sits {x} {j} t =
         rw add-zero
-        at (blocks-at (atBit rule ids j) (λ p. one (Bits j p)) (at-length j) (Span j) (Spot j x) 0 (below j x) (omega (arith, ap one (t .has))))
+        at (chain-at (atBit rule ids j) (λ p. one (Bits j p)) (at-length j) (Span j) (Spot j x) 0 (below j x) (omega (arith, ap one (t .has))))
         ∙ at-sits t
 
     in-count : (x i : ℕ) → count x (inLevel rule ids i) ≡ one (marked rule ids i x) * count x (Left i)
     in-count x i =
-        total-blocks (λ y. one (eqb y x)) (atBit rule ids i) (Span i)
+        total-chain (λ y. one (eqb y x)) (atBit rule ids i) (Span i)
         ∙ sum-same _ _ (Span i) (λ p h. each p)
         ∙ sum-point (λ p. one (Bits i p) * count x (Left i)) (Spot i x) (Span i)
         ∙ rw (one-lt (Spot i x) (Span i) (below i x)) (mul-one (one (marked rule ids i x) * count x (Left i)))
@@ -183,7 +183,7 @@ module _ (rule : Rule) (ids : List ℕ) where
 
     list-sits : (n : ℕ) {x j : ℕ} → j < n → Sits x j → getD (rowList rule ids n) (Here j x) 0 ≡ x
     list-sits n {x} {j} h t =
-        blocks-at (inLevel rule ids) Ones in-length n j (rank (Bits j) (Spot j x)) h (rank-lt (Bits j) (Spot j x) (Span j) (t .has) (below j x))
+        chain-at (inLevel rule ids) Ones in-length n j (rank (Bits j) (Spot j x)) h (rank-lt (Bits j) (Spot j x) (Span j) (t .has) (below j x))
         ∙ in-sits t
 
     -- ---- no id is left

@@ -7,7 +7,7 @@ use Prim.Native.Nat.{ℕ, zero, suc, _+_, _*_}
 use lib.Dec.{eqb, leb}
 use lib.ListN.{length}
 use Rattle.bounds.specs.Bounds.{sampleBits}
-use Rattle.laws.specs.Counting.{sum, rank, hits, sift, blocks}
+use Rattle.laws.specs.Counting.{sum, rank, hits, sift, chain}
 
 -- A rule gives an id its position in a level of a given size, and a level its size by how many ids come to it.
 pub record Rule : Type 0 where
@@ -140,7 +140,7 @@ module _ (rule : Rule) (ids : List ℕ) where
   atBit i p = cond (bit rule ids i p) (sift (λ x. eqb (rule .pos i (span rule ids i) x) p) (remaining rule ids i)) []
 
   abbrev pub inLevel : ℕ → List ℕ
-  inLevel i = blocks (atBit i) (span rule ids i)
+  inLevel i = chain (atBit i) (span rule ids i)
 
   abbrev pub rowList : ℕ → List ℕ
-  rowList n = blocks inLevel n
+  rowList n = chain inLevel n

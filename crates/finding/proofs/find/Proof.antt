@@ -75,7 +75,7 @@ loop-again c =
     let t = here u in (
       search needs,
       l .inv .1,
-      walk-more _ (l .i) (l .at) (l .sampled) _ _ (l .inv .2) (s .pre .size-least (l .i) (omega arith)) (t .small) (u .u64s .ensures) (ranked (c .before .before)),
+      walk-more _ (l .i) (l .at) (l .sampled) _ _ (l .inv .2) (s .pre .bounds .size-least (l .i) (omega arith)) (t .small) (u .u64s .ensures) (ranked (c .before .before)),
       below-more _ (l .i) (l .inv .3)
           (not-here position (s .args .count) _ _ _ (s .args .id) (l .i) (l .at) (l .sampled) _ t _ _ (c .before .before .before .before .part .ensures)
           (c .before .before .before .hashmod .ensures) _ (c .before .has-bit .ensures) (c .if1 .left)),
@@ -97,7 +97,7 @@ find-spec =
     (λ c. (search needs, search needs, walk-none _, λ m h. absurd (omega arith)))
     (λ c. search needs)
     (λ c. search needs)
-    (λ c κs. c .before .before .before .before .before .pre .size-most (c .before .before .loop .i) (omega arith))
+    (λ c κs. c .before .before .before .before .before .pre .bounds .size-most (c .before .before .loop .i) (omega arith))
     (λ c κs. here c .word-room)
     (λ c κs. omega (arith, here (c .before) .small))
     (λ c κs. omega (arith, here (c .before .before) .small, c .before .before .u64s .ensures))

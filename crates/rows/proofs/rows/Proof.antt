@@ -27,7 +27,7 @@ rows-spec =
     (λ c κs. search needs)
     (λ c. call-unfit _ _ _ _ _ _ (failed (c .before .is-fit .ensures) (c .if1 .taken)))
     (λ c. rows-short _ _ _ _ _ _ (fits (c .before .before)) (c .if2 .taken))
-    (λ c κs. let f = fit-known _ _ _ _ _ (fits (c .before .before)) in omega (arith, f .few-ids))
+    (λ c κs. let f = fit-known _ _ _ _ _ (fits (c .before .before)) in omega (arith, f .bounds .few-ids))
     (λ c. marks-short _ _ _ _ _ _ (fits (c .before .before .before .before)) (c .before .before .if2 .left) (omega (arith, c .before .u64s .ensures)))
     (λ c κs.
     let s = c .before .before .before in
