@@ -1,11 +1,12 @@
-/* Shawltide's calls for C, in libhost.a for x86-64 Linux: ids to row numbers, with no two ids on one row.
+/* Shawltide's calls for C, in libhost.a for x86-64 Linux: ids to row numbers, with no two ids on one row, and their index as bytes to keep on disk.
  *
  * The result. Each call answers with one number: a value, SHAWLTIDE_NONE for none, SHAWLTIDE_REFUSED(r) for refusal r of the list below. Every
  * input is answered; no call traps, allocates, keeps a pointer or runs on.
  *
- * What the host must pass. A store is a pointer to uint64_t and its length in places, not bytes. For each:
- *   - the pointer is not null, even where the length is 0, and aligned for uint64_t;
- *   - the length is true: so many places can be read, and written where the pointer is not const;
+ * What the host must pass. A store is a pointer to uint64_t and its length in places, not bytes; an image is a pointer to uint8_t and its length in
+ * bytes. For each:
+ *   - the pointer is not null, even where the length is 0, and aligned for its type;
+ *   - the length is true: so many places or bytes can be read, and written where the pointer is not const;
  *   - a store that a call may write overlaps no other store of the same call, and no other thread uses it meanwhile.
  * Beyond that nothing is asked of the host: contents, numbers and lengths are checked by the calls.
  *
@@ -45,7 +46,12 @@ extern "C" {
 #define SHAWLTIDE_SAMPLE_WORDS 8
 #define SHAWLTIDE_SAMPLE_BITS (64 * SHAWLTIDE_SAMPLE_WORDS)
 
-/* Places of a head (id count, level count, sizes), and what out of a build and place of a lookup need at least. */
+/* Bytes of a block of an image; how many of its 64 words are content; the fewest bytes of an image. */
+#define SHAWLTIDE_BLOCK_BYTES 512
+#define SHAWLTIDE_BLOCK_CONTENT 62
+#define SHAWLTIDE_MIN_IMAGE (2 * SHAWLTIDE_BLOCK_BYTES)
+
+/* Places of a head (id count, level count, sizes), and what out of a build or a reading and place of a lookup need at least. */
 #define SHAWLTIDE_HEAD (SHAWLTIDE_HEAD_SIZES + 2)
 #define SHAWLTIDE_OUT (SHAWLTIDE_HEAD + 1)
 #define SHAWLTIDE_PLACE 2
@@ -64,8 +70,9 @@ static inline uint64_t shawltide_refusal(uint64_t result) {
     return result > SHAWLTIDE_MAX_BITS ? SHAWLTIDE_NONE - result : 0;
 }
 
-/* Refusals, with what a refused call leaves. Where it does not say otherwise, all stores are as they were, but for out of a build (there). Where
- * several apply, the smallest counts; but sets are asked 10 before 9, and a short out of a build or place of a lookup is found before anything else. */
+/* Refusals, with what a refused call leaves. Where it does not say otherwise, all stores are as they were, but for out of a build or a reading (there).
+ * Where several apply, the smallest counts; but sets are asked 10 before 9, images 11 last, and a short out of a build or a reading, or place of a
+ * lookup, is found before anything else. */
 
 /* Gamma is not above 1.01, or is NaN. */
 #define SHAWLTIDE_GAMMA_TOO_SMALL 1
@@ -87,12 +94,18 @@ static inline uint64_t shawltide_refusal(uint64_t result) {
 #define SHAWLTIDE_BIT_OUTSIDE 9
 /* The capacity is above MAX_BITS, words is too short for it, or words has a bit at or past it; for insert_all, the capacities are unequal. */
 #define SHAWLTIDE_UNFIT_SET 10
-/* A store for answers is too short: out, place, rows or marks. */
+/* A store for answers is too short: out, place, rows or marks; image of a writing; words or samples of a reading. */
 #define SHAWLTIDE_SHORT_OUTPUT 11
 /* The ids are not those of the index: rows as they were, the needed marks are 0. */
 #define SHAWLTIDE_WRONG_IDS 12
+/* The image is shorter than MIN_IMAGE, or not whole blocks. */
+#define SHAWLTIDE_UNFIT_LENGTH 13
+/* A block of the image has a wrong number or a wrong check: the first is in out[0]. */
+#define SHAWLTIDE_BAD_BLOCK 14
+/* The blocks of the image are sound, but hold no index; or a head that is to be written has a size past its levels that is not 0. */
+#define SHAWLTIDE_UNFIT_CONTENT 15
 
-/* ---- Room, in places. Arguments of these macros are evaluated more than once. ---- */
+/* ---- Room, in places, and bytes of images. Arguments of these macros are evaluated more than once. ---- */
 
 /* Words of a level or set of so many bits, and samples of a level: rounded up. A row list of n ids needs WORDS(n) marks. */
 #define SHAWLTIDE_WORDS(bits) ((uint64_t)(bits) / 64 + ((uint64_t)(bits) % 64 > 0))
@@ -117,6 +130,19 @@ static inline uint64_t shawltide_refusal(uint64_t result) {
  * harm. */
 #define SHAWLTIDE_ENOUGH_WORDS(n, gamma) (SHAWLTIDE_LEVEL_LIMIT * SHAWLTIDE_COLLIDE(n, gamma))
 #define SHAWLTIDE_ENOUGH_SAMPLES(n, gamma) (SHAWLTIDE_LEVEL_LIMIT * SHAWLTIDE_SAMPLES(SHAWLTIDE_FIRST_BITS(n, gamma)))
+
+/* Bytes of the image of an index that uses so many words and samples; with the lengths of longer stores, enough. MAX_IMAGE is that of the largest index
+ * that a head can name: no file that is longer holds an image. */
+#define SHAWLTIDE_IMAGE_BYTES(words, samples)                                                             \
+    ((1 + SHAWLTIDE_HEAD + (uint64_t)(words) + (uint64_t)(samples) + SHAWLTIDE_BLOCK_CONTENT - 1) \
+     / SHAWLTIDE_BLOCK_CONTENT * SHAWLTIDE_BLOCK_BYTES)
+#define SHAWLTIDE_MAX_IMAGE                                                               \
+    SHAWLTIDE_IMAGE_BYTES(SHAWLTIDE_MAX_LEVELS * SHAWLTIDE_WORDS(SHAWLTIDE_MAX_BITS), \
+                          SHAWLTIDE_MAX_LEVELS * SHAWLTIDE_SAMPLES(SHAWLTIDE_MAX_BITS))
+
+/* What is enough for the words and the samples of an image of so many bytes: no level has more samples to its words than the smallest, one to four. */
+#define SHAWLTIDE_IMAGE_WORDS(bytes) ((uint64_t)(bytes) / SHAWLTIDE_BLOCK_BYTES * SHAWLTIDE_BLOCK_CONTENT)
+#define SHAWLTIDE_IMAGE_SAMPLES(bytes) (SHAWLTIDE_IMAGE_WORDS(bytes) / 5)
 
 /* ---- Sets. A set is a capacity of at most MAX_BITS and words: WORDS(capacity) of them or more, of which bit b is bit b % 64 of words[b / 64]. Words
  * past those are neither read nor changed. ---- */
@@ -181,6 +207,25 @@ uint64_t shawltide_lookup(const uint64_t *head, size_t head_len, const uint64_t 
 uint64_t shawltide_rows(const uint64_t *head, size_t head_len, const uint64_t *words, size_t words_len,
                         const uint64_t *samples, size_t samples_len, const uint64_t *ids, size_t ids_len,
                         uint64_t *rows, size_t rows_len, uint64_t *marks, size_t marks_len);
+
+/* ---- The image: an index as bytes, in blocks of BLOCK_BYTES that have a number and a check each, the same on every machine. docs/REFERENCE.md has its
+ * form. To keep it in a file, write a new file beside the old one, fsync it, rename it over the old one, and fsync the folder. ---- */
+
+/* Writes the index to the front of the image: how many blocks. Bytes past them stay.
+ * head, words, samples: as for a lookup; what is past their used part is not read.
+ * image: IMAGE_BYTES(words_len, samples_len) bytes or more, or what the used part takes. It may hold anything.
+ * Refused: 7, 15, 11. */
+uint64_t shawltide_image_write(const uint64_t *head, size_t head_len, const uint64_t *words, size_t words_len,
+                               const uint64_t *samples, size_t samples_len, uint8_t *image, size_t image_len);
+
+/* Reads an image, a slice whose length is exactly that of its blocks: 0. Whichever one word of an image is changed, it is refused with 14.
+ * words, samples: IMAGE_WORDS(image_len) and IMAGE_SAMPLES(image_len) places or more, or as many as the index uses. They may hold anything; then they
+ *      hold the index, and 0 past it.
+ * out: SHAWLTIDE_OUT places or more. out[0] is the block that refusal 14 carries, else 0; out[1] to out[HEAD] are the head, or zeros where the reading
+ *      is refused; later places stay. A short out stays as it was.
+ * Refused: 11, for out; 13, 14, 15; 11, for words and samples. */
+uint64_t shawltide_image_read(const uint8_t *image, size_t image_len, uint64_t *words, size_t words_len,
+                              uint64_t *samples, size_t samples_len, uint64_t *out, size_t out_len);
 
 #ifdef __cplusplus
 }

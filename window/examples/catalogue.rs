@@ -1,8 +1,12 @@
-//! A catalogue's front end in small: paths have ids, an index gives each id a row, and a file's record stands at its row.
+//! A catalogue's front end in small: paths have ids, an index gives each id a row, and a file's record stands at its row. The index is kept on disk, so that
+//! it is built once.
 //!
 //!     tools/cargo-x86-64 window run --example catalogue
 
 use shawltide::{Index, Refusal, GAMMA};
+use std::error::Error;
+use std::path::Path;
+use std::{env, fs, process};
 
 const FILES: [(u64, &str); 6] = [
     (0x6C65_7474_6572_0001, "letters/2024/january.odt"),
@@ -21,10 +25,22 @@ struct Catalogue {
 }
 
 impl Catalogue {
-    fn new(files: &[(u64, &'static str)]) -> Result<Catalogue, Refusal> {
+    /// The catalogue of some files, whose index is kept in an image. It is built only where there is none yet, where it is damaged, or where it is of
+    /// other ids.
+    fn open(image: &Path, files: &[(u64, &'static str)]) -> Result<Catalogue, Box<dyn Error>> {
         let given: Vec<u64> = files.iter().map(|(id, _)| *id).collect();
+        if let Ok(index) = Index::load(image) {
+            if let Ok(ids) = index.rows(&given) {
+                return Ok(Catalogue::of(index, ids, files)?);
+            }
+        }
         let index = Index::build(&given, GAMMA)?;
+        index.save(image)?;
         let ids = index.rows(&given)?;
+        Ok(Catalogue::of(index, ids, files)?)
+    }
+
+    fn of(index: Index, ids: Vec<u64>, files: &[(u64, &'static str)]) -> Result<Catalogue, Refusal> {
         let mut paths = vec![""; files.len()];
         for (id, path) in files {
             if let Some(row) = index.row(*id)? {
@@ -41,16 +57,31 @@ impl Catalogue {
     }
 }
 
-fn main() -> Result<(), Refusal> {
-    let catalogue = Catalogue::new(&FILES)?;
-    for (id, path) in FILES {
-        assert_eq!(catalogue.path(id)?, Some(path));
-        println!("{id:#018x} {path}");
+fn main() -> Result<(), Box<dyn Error>> {
+    let folder = env::temp_dir().join(format!("catalogue-{}", process::id()));
+    fs::create_dir(&folder)?;
+    let shown = show(&folder.join("catalogue.image"));
+    fs::remove_dir_all(&folder)?;
+    shown
+}
+
+/// The first time the index is built, the second time it is there; a damaged image is built again.
+fn show(image: &Path) -> Result<(), Box<dyn Error>> {
+    for _ in 0..2 {
+        let catalogue = Catalogue::open(image, &FILES)?;
+        for (id, path) in FILES {
+            assert_eq!(catalogue.path(id)?, Some(path));
+            println!("{id:#018x} {path}");
+        }
+        for id in 0..71 {
+            assert_eq!(catalogue.path(id)?, None);
+        }
     }
-    for id in 0..71 {
-        assert_eq!(catalogue.path(id)?, None);
-    }
-    let twice = Catalogue::new(&[FILES[0], FILES[1], FILES[0]]);
+    fs::write(image, "no image")?;
+    println!("a damaged image: {}", Index::load(image).expect_err("is refused"));
+    let catalogue = Catalogue::open(image, &FILES)?;
+    assert_eq!(Index::load(image)?, catalogue.index);
+    let twice = Catalogue::open(image, &[FILES[0], FILES[1], FILES[0]]);
     println!("an id given twice: {}", twice.err().expect("is refused"));
     Ok(())
 }

@@ -9,6 +9,7 @@ fn main() {
     refusals();
     levels();
     rooms();
+    images();
 }
 
 fn bounds() {
@@ -17,6 +18,8 @@ fn bounds() {
     println!("LEVEL_LIMIT {LEVEL_LIMIT}\nHEAD_SIZES {HEAD_SIZES}\nMAX_LEVELS {MAX_LEVELS}");
     println!("SAMPLE_WORDS {SAMPLE_WORDS}\nSAMPLE_BITS {SAMPLE_BITS}");
     println!("HEAD {}\nOUT {}\nPLACE {}", host::HEAD, host::OUT, host::PLACE);
+    println!("BLOCK_BYTES {BLOCK_BYTES}\nBLOCK_CONTENT {BLOCK_CONTENT}\nMIN_IMAGE {MIN_IMAGE}");
+    println!("MAX_IMAGE {}", Room::largest().image_bytes());
 }
 
 fn refusals() {
@@ -33,6 +36,9 @@ fn refusals() {
         ("UNFIT_SET", Refusal::UnfitSet),
         ("SHORT_OUTPUT", Refusal::ShortOutput),
         ("WRONG_IDS", Refusal::WrongIds),
+        ("UNFIT_LENGTH", Refusal::UnfitLength),
+        ("BAD_BLOCK", Refusal::BadBlock(0)),
+        ("UNFIT_CONTENT", Refusal::UnfitContent),
     ] {
         println!("{name} {}", refusal.number());
     }
@@ -57,5 +63,18 @@ fn rooms() {
             let places = places.map(|places| places.to_string()).join(" ");
             println!("room of {ids} ids, gamma {number}: {places}");
         }
+    }
+}
+
+/// Bytes of the image of an index that uses so much, and what is enough for the index of an image of so many bytes.
+fn images() {
+    for words in [0, 4, 20, 21, 82, 83, 1_000, 1 << 40] {
+        let samples = words / 8;
+        let bytes = Room { words, samples }.image_bytes();
+        println!("image of {words} words: {bytes}");
+    }
+    for bytes in [0, 511, 512, MIN_IMAGE, 2_560, 1 << 40] {
+        let room = Room::of_image(bytes);
+        println!("room of an image of {bytes} bytes: {} {}", room.words, room.samples);
     }
 }

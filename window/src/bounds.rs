@@ -32,3 +32,12 @@ pub const SAMPLE_WORDS: usize = 8;
 
 /// and how many bits.
 pub const SAMPLE_BITS: u64 = 64 * SAMPLE_WORDS as u64;
+
+/// How many bytes a block of an image is,
+pub const BLOCK_BYTES: usize = 512;
+
+/// and how many of its words are content: all but its number and its check.
+pub const BLOCK_CONTENT: usize = 62;
+
+/// How many bytes an image has at least (refusal 13): head, words and samples of the smallest index take two blocks.
+pub const MIN_IMAGE: usize = 2 * BLOCK_BYTES;

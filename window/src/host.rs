@@ -1,5 +1,5 @@
-//! The thirteen calls of libhost.a over slices, for a front end that keeps its own stores. `docs/REFERENCE.md` says what each takes, answers and leaves;
-//! [`Room`](crate::Room) says how long the stores of a build have to be.
+//! The fifteen calls of libhost.a over slices, for a front end that keeps its own stores. `docs/REFERENCE.md` says what each takes, answers and leaves;
+//! [`Room`](crate::Room) says how long the stores of a build and of an image have to be.
 //!
 //! The result is a value, [`NONE`], or `NONE - r` for refusal r ([`Refusal::number`](crate::Refusal::number)). No call panics, whatever it is given.
 //!
@@ -22,7 +22,7 @@ pub const NONE: u64 = u64::MAX;
 /// How many numbers a head is: id count, level count, sizes.
 pub const HEAD: usize = HEAD_SIZES + 2;
 
-/// How many places `out` of a build needs: one for the value that a refusal carries, and the head's.
+/// How many places `out` of a build or of a reading needs: one for the value that a refusal carries, and the head's.
 pub const OUT: usize = HEAD + 1;
 
 /// How many places `place` of a lookup needs: level and position.
@@ -100,6 +100,26 @@ mod c {
             rows_len: usize,
             marks: *mut u64,
             marks_len: usize,
+        ) -> u64;
+        pub fn shawltide_image_write(
+            head: *const u64,
+            head_len: usize,
+            words: *const u64,
+            words_len: usize,
+            samples: *const u64,
+            samples_len: usize,
+            image: *mut u8,
+            image_len: usize,
+        ) -> u64;
+        pub fn shawltide_image_read(
+            image: *const u8,
+            image_len: usize,
+            words: *mut u64,
+            words_len: usize,
+            samples: *mut u64,
+            samples_len: usize,
+            out: *mut u64,
+            out_len: usize,
         ) -> u64;
     }
 }
@@ -228,6 +248,39 @@ pub fn rows(head: &[u64], words: &[u64], samples: &[u64], ids: &[u64], rows: &mu
             rows.len(),
             marks.as_mut_ptr(),
             marks.len(),
+        )
+    }
+}
+
+/// Writes the index as an image to the front of `image`: how many blocks. Later bytes stay.
+pub fn image_write(head: &[u64], words: &[u64], samples: &[u64], image: &mut [u8]) -> u64 {
+    unsafe {
+        c::shawltide_image_write(
+            head.as_ptr(),
+            head.len(),
+            words.as_ptr(),
+            words.len(),
+            samples.as_ptr(),
+            samples.len(),
+            image.as_mut_ptr(),
+            image.len(),
+        )
+    }
+}
+
+/// Reads an image, whose length is exactly that of its blocks, into `words` and `samples`: 0. `out` gets the block that refusal 14 carries, else 0,
+/// and the head.
+pub fn image_read(image: &[u8], words: &mut [u64], samples: &mut [u64], out: &mut [u64]) -> u64 {
+    unsafe {
+        c::shawltide_image_read(
+            image.as_ptr(),
+            image.len(),
+            words.as_mut_ptr(),
+            words.len(),
+            samples.as_mut_ptr(),
+            samples.len(),
+            out.as_mut_ptr(),
+            out.len(),
         )
     }
 }

@@ -48,13 +48,27 @@ impl Index {
         }
     }
 
+    /// The index that a call left in `out` and in stores, of which it keeps what it uses.
+    pub(crate) fn left_in(out: &[u64; host::OUT], mut words: Vec<u64>, mut samples: Vec<u64>) -> Index {
+        let mut head = [0; host::HEAD];
+        head.copy_from_slice(&out[1..]);
+        let sizes = head[2..].iter().take(head[1] as usize);
+        let used = sizes.map(|size| Room::of_level(*size)).reduce(Room::plus);
+        let used = used.expect("an index has a level");
+        words.truncate(used.words);
+        samples.truncate(used.samples);
+        words.shrink_to_fit();
+        samples.shrink_to_fit();
+        Index { head, words, samples }
+    }
+
     /// An index kept elsewhere: the head (id count, level count, sizes), words and samples that [`Index::parts`] or [`Index::into_parts`] gave. Any
     /// others are taken too; then a lookup may be refused with 7 or 8, and the rows that it gives are not those of an index.
     pub fn from_parts(head: [u64; host::HEAD], words: Vec<u64>, samples: Vec<u64>) -> Index {
         Index { head, words, samples }
     }
 
-    /// The head, the words and the samples, to be written elsewhere.
+    /// The head, the words and the samples, to be kept elsewhere. [`Index::to_image`] makes bytes of them, whose damage is found.
     ///
     /// ```
     /// use shawltide::{host, Index};
@@ -76,7 +90,7 @@ impl Index {
 
     /// The id's row. An id that is not of the index has none, or gets the row of another.
     ///
-    /// Refused are only indexes that no build made ([`Index::from_parts`]): with a head that does not fit (7) or a row that cannot be (8).
+    /// Refused are only indexes that no build made ([`Index::from_parts`], or an image made by hand): with a head that does not fit (7) or a row that cannot be (8).
     ///
     /// ```
     /// use shawltide::Index;
@@ -159,6 +173,14 @@ impl Index {
         self.head[1] as usize
     }
 
+    /// How many words and samples there are.
+    pub fn room(&self) -> Room {
+        Room {
+            words: self.words.len(),
+            samples: self.samples.len(),
+        }
+    }
+
     /// How many bits the words and the samples take. The head takes [`host::HEAD`] numbers more, 816 bytes.
     pub fn bits(&self) -> usize {
         64 * (self.words.len() + self.samples.len())
@@ -183,7 +205,7 @@ impl fmt::Debug for Index {
     }
 }
 
-/// A build in so much room, of which the index keeps what it uses.
+/// A build in so much room.
 fn build_in(ids: &[u64], gamma: f64, room: Room) -> Result<Index, Refusal> {
     let mut words = vec![0; room.words];
     let mut samples = vec![0; room.samples];
@@ -192,16 +214,7 @@ fn build_in(ids: &[u64], gamma: f64, room: Room) -> Result<Index, Refusal> {
     let mut out = [0; host::OUT];
     let result = host::build(gamma, ids, &mut words, &mut samples, &mut collide, &mut rest, &mut out);
     answer(result, out[0])?;
-    let mut head = [0; host::HEAD];
-    head.copy_from_slice(&out[1..]);
-    let sizes = head[2..].iter().take(head[1] as usize);
-    let used = sizes.map(|size| Room::of_level(*size)).reduce(Room::plus);
-    let used = used.expect("an index has a level");
-    words.truncate(used.words);
-    samples.truncate(used.samples);
-    words.shrink_to_fit();
-    samples.shrink_to_fit();
-    Ok(Index { head, words, samples })
+    Ok(Index::left_in(&out, words, samples))
 }
 
 #[cfg(test)]

@@ -24,6 +24,9 @@
 //! **Refusals.** What cannot be done is refused with a [`Refusal`], which says what is wrong and what to do. No call panics, but for `collect` and
 //! `extend` of a [`BitSet`], which cannot refuse.
 //!
+//! **On disk.** [`Index::save`] keeps an index in a file and [`Index::load`] reads it back, so that it is built once. The file is an image, in blocks that
+//! have a check each: what is damaged is refused, with the block. [`Index::to_image`] and [`Index::from_image`] do the same with bytes.
+//!
 //! **Threads.** Every type here is `Send` and `Sync`: any number of threads may ask one [`Index`] or [`BitSet`] at once, with no lock. The calls of
 //! libhost.a keep nothing between two calls, so that builds in several threads do not meet.
 //!
@@ -44,14 +47,17 @@ compile_error!("libhost.a is for x86-64 Linux: tools/cargo-x86-64 builds for it 
 
 pub mod bounds;
 pub mod host;
+mod image;
 mod index;
 mod members;
 mod refusal;
 mod repeat;
+mod replace;
 mod room;
 mod set;
 
 pub use bounds::{GAMMA, MAX_BITS, MAX_IDS};
+pub use image::ImageError;
 pub use index::{Index, Place};
 pub use members::Iter;
 pub use refusal::Refusal;
@@ -60,5 +66,5 @@ pub use room::Room;
 pub use set::BitSet;
 
 /// The form in which an index is kept: a head of [`host::HEAD`] numbers, words and samples. A version that makes indexes of another form has another number
-/// here.
+/// here, and at the beginning of its images.
 pub const FORM: u64 = 1;

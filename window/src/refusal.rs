@@ -1,4 +1,4 @@
-use crate::bounds::{MAX_BITS, MAX_GAMMA, MAX_IDS, MIN_GAMMA};
+use crate::bounds::{BLOCK_BYTES, MAX_BITS, MAX_GAMMA, MAX_IDS, MIN_GAMMA, MIN_IMAGE};
 use crate::host::NONE;
 use std::{error, fmt};
 
@@ -39,6 +39,12 @@ pub enum Refusal {
     ShortOutput,
     /// 12: the ids of a row list are not those of the index.
     WrongIds,
+    /// 13: an image is shorter than 1,024 bytes, or not whole blocks of 512.
+    UnfitLength,
+    /// 14: this block of an image has a wrong number or a wrong check, and no block before it has.
+    BadBlock(u64),
+    /// 15: what the blocks of an image hold is no index; or a head that is to be written has a size past its levels that is not 0.
+    UnfitContent,
 }
 
 impl Refusal {
@@ -57,10 +63,13 @@ impl Refusal {
             Refusal::UnfitSet => 10,
             Refusal::ShortOutput => 11,
             Refusal::WrongIds => 12,
+            Refusal::UnfitLength => 13,
+            Refusal::BadBlock(_) => 14,
+            Refusal::UnfitContent => 15,
         }
     }
 
-    /// The refusal of that number, with the value that 5 or 6 carries.
+    /// The refusal of that number, with the value that 5, 6 or 14 carries.
     pub fn from_number(number: u64, value: u64) -> Option<Refusal> {
         Some(match number {
             1 => Refusal::GammaTooSmall,
@@ -75,6 +84,9 @@ impl Refusal {
             10 => Refusal::UnfitSet,
             11 => Refusal::ShortOutput,
             12 => Refusal::WrongIds,
+            13 => Refusal::UnfitLength,
+            14 => Refusal::BadBlock(value),
+            15 => Refusal::UnfitContent,
             _ => return None,
         })
     }
@@ -110,6 +122,15 @@ impl Refusal {
             ),
             Refusal::ShortOutput => write!(f, "a store for the answer is too short"),
             Refusal::WrongIds => write!(f, "the ids are not those of the index"),
+            Refusal::UnfitLength => write!(
+                f,
+                "the image is shorter than {MIN_IMAGE} bytes or not whole blocks of {BLOCK_BYTES}: it was cut off, or is none"
+            ),
+            Refusal::BadBlock(block) => write!(f, "block {block} of the image is damaged"),
+            Refusal::UnfitContent => write!(
+                f,
+                "there is no whole index of this form: the image was cut off, or written by something else"
+            ),
         }
     }
 
@@ -127,6 +148,9 @@ impl Refusal {
             Refusal::UnfitSet => "make each set empty or of ones first, and keep its capacity",
             Refusal::ShortOutput => "lend as many places as the call writes",
             Refusal::WrongIds => "give those that it was built of, each once",
+            Refusal::UnfitLength => "take the image whole, or build it again",
+            Refusal::BadBlock(_) => "take another copy of it, or build it again",
+            Refusal::UnfitContent => "build it again",
         })
     }
 }
@@ -145,7 +169,7 @@ mod tests {
 
     #[test]
     fn numbers_come_back() {
-        for number in 1..=12 {
+        for number in 1..=15 {
             let refusal = Refusal::from_number(number, 30).expect("the table has it");
             assert_eq!(refusal.number(), number);
             assert_eq!(answer(NONE - number, 30), Err(refusal));
@@ -154,26 +178,27 @@ mod tests {
             assert_ne!(refusal.to_string().contains("; "), says_the_bound);
         }
         assert_eq!(Refusal::from_number(0, 30), None);
-        assert_eq!(Refusal::from_number(13, 30), None);
+        assert_eq!(Refusal::from_number(16, 30), None);
     }
 
     #[test]
     fn refusals_can_be_keys() {
-        let all: HashSet<_> = (1..=12).map(|number| Refusal::from_number(number, 30)).collect();
-        assert_eq!(all.len(), 12);
+        let all: HashSet<_> = (1..=15).map(|number| Refusal::from_number(number, 30)).collect();
+        assert_eq!(all.len(), 15);
         assert!(all.contains(&Some(Refusal::IdsRemain(30))));
     }
 
     #[test]
     fn values_stay() {
-        for value in [0, 1, MAX_BITS, NONE - 13, NONE] {
+        for value in [0, 1, MAX_BITS, NONE - 16, NONE] {
             assert_eq!(answer(value, 30), Ok(value));
         }
     }
 
     #[test]
-    fn five_and_six_carry_a_value() {
+    fn five_six_and_fourteen_carry_a_value() {
         assert!(Refusal::NoRoomForLevel(99).to_string().contains(" level 99;"));
         assert!(Refusal::IdsRemain(17).to_string().contains(" 17 ids "));
+        assert!(Refusal::BadBlock(475_666).to_string().contains(" block 475666 "));
     }
 }

@@ -1,10 +1,14 @@
-use crate::bounds::{LEVEL_LIMIT, MAX_BITS, MIN_BITS, SAMPLE_WORDS};
+use crate::bounds::{BLOCK_BYTES, BLOCK_CONTENT, LEVEL_LIMIT, MAX_BITS, MAX_LEVELS, MIN_BITS, SAMPLE_WORDS};
+use crate::host;
 
 /// All levels of different ids are expected to take less than so many times what level 0 takes: e^(1 / gamma) times, but for the smallest levels.
 const LIKELY_LEVELS: usize = 3;
 
-/// Places for words and for samples: what a front end that calls [`host::build`](crate::host::build) itself has to lend.
-/// [`Index::build`](crate::Index::build) sees to it by itself.
+/// The content of an image begins with a word for its form, before the head.
+const FORM_WORDS: usize = 1;
+
+/// Places for words and for samples: what a front end that calls [`host::build`] or [`host::image_read`] itself has to lend.
+/// [`Index::build`](crate::Index::build) and [`Index::from_image`](crate::Index::from_image) see to it by themselves.
 ///
 /// ```
 /// use shawltide::Room;
@@ -48,6 +52,38 @@ impl Room {
     /// [`Room::likely`], which does no harm.
     pub fn enough(ids: usize, gamma: f64) -> Room {
         Room::of_first_level(ids, gamma).times(LEVEL_LIMIT)
+    }
+
+    /// What the largest index takes that a head can name, and so the largest that an image can hold.
+    pub fn largest() -> Room {
+        Room::of_level(MAX_BITS).times(MAX_LEVELS)
+    }
+
+    /// Enough for the index of an image of so many bytes: its content is words, but for the head, and samples. No level has more samples to its words
+    /// than the smallest.
+    pub fn of_image(bytes: usize) -> Room {
+        let content = bytes / BLOCK_BYTES * BLOCK_CONTENT;
+        let least = Room::of_level(MIN_BITS);
+        Room {
+            words: content,
+            samples: content / (least.words + least.samples) * least.samples,
+        }
+    }
+
+    /// How many bytes the image of an index takes that uses so much: what [`host::image_write`] has to be lent.
+    ///
+    /// ```
+    /// use shawltide::Index;
+    /// let index = Index::build(&[10, 20, 30], 2.0)?;
+    /// assert_eq!(index.room().image_bytes(), index.to_image()?.len());
+    /// # Ok::<(), shawltide::Refusal>(())
+    /// ```
+    pub fn image_bytes(self) -> usize {
+        let content = (FORM_WORDS + host::HEAD)
+            .saturating_add(self.words)
+            .saturating_add(self.samples);
+        let blocks = content / BLOCK_CONTENT + usize::from(content % BLOCK_CONTENT > 0);
+        blocks.saturating_mul(BLOCK_BYTES)
     }
 
     fn times(self, levels: usize) -> Room {

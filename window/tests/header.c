@@ -26,7 +26,7 @@ static void results(void) {
     }
     CHECK(!SHAWLTIDE_IS_REFUSAL(SHAWLTIDE_NONE));
     CHECK(SHAWLTIDE_REFUSAL(SHAWLTIDE_NONE) == 0);
-    for (uint64_t number = SHAWLTIDE_GAMMA_TOO_SMALL; number <= SHAWLTIDE_WRONG_IDS; number++) {
+    for (uint64_t number = SHAWLTIDE_GAMMA_TOO_SMALL; number <= SHAWLTIDE_UNFIT_CONTENT; number++) {
         CHECK(SHAWLTIDE_IS_REFUSAL(SHAWLTIDE_REFUSED(number)));
         CHECK(SHAWLTIDE_REFUSAL(SHAWLTIDE_REFUSED(number)) == number);
     }
@@ -146,17 +146,71 @@ static void rooms(void) {
     CHECK(SHAWLTIDE_REFUSAL(enough(16.5, ids, 9, &value)) == SHAWLTIDE_GAMMA_TOO_LARGE);
 }
 
+/* The smallest index, of no ids: its head, its words, which are all 0, and its sample. */
+static const uint64_t no_ids[SHAWLTIDE_HEAD] = {0, 1, SHAWLTIDE_MIN_BITS}, clear[4];
+
+/* It takes two blocks, whose bytes past the blocks' numbers, the form and the head are 0 but for the checks. */
+static void images(void) {
+    uint8_t image[SHAWLTIDE_MIN_IMAGE + 1];
+    uint64_t words[SHAWLTIDE_IMAGE_WORDS(SHAWLTIDE_MIN_IMAGE)], samples[SHAWLTIDE_IMAGE_SAMPLES(SHAWLTIDE_MIN_IMAGE)], out[SHAWLTIDE_OUT + 1];
+    memset(image, 7, sizeof image), memset(words, 7, sizeof words), memset(samples, 7, sizeof samples), memset(out, 7, sizeof out);
+    const uint64_t later = out[SHAWLTIDE_OUT];
+    CHECK(SHAWLTIDE_IMAGE_BYTES(4, 1) == SHAWLTIDE_MIN_IMAGE);
+    CHECK(shawltide_image_write(no_ids, SHAWLTIDE_HEAD, clear, 4, clear, 1, image, sizeof image) == 2);
+    CHECK(image[0] == 0 && image[8] == 1 && image[16] == 0 && image[24] == 1 && image[32] == 255 && image[40] == 0);
+    CHECK(image[SHAWLTIDE_BLOCK_BYTES] == 1 && image[SHAWLTIDE_BLOCK_BYTES + 8] == 0 && image[SHAWLTIDE_MIN_IMAGE] == 7);
+    CHECK(shawltide_image_read(image, SHAWLTIDE_MIN_IMAGE, words, 124, samples, 24, out, SHAWLTIDE_OUT + 1) == 0);
+    CHECK(out[0] == 0 && memcmp(out + 1, no_ids, sizeof no_ids) == 0 && out[SHAWLTIDE_OUT] == later);
+    CHECK(all(words, 124, 0) && all(samples, 24, 0));
+}
+
+/* A refused writing changes no byte. */
+static void refused_writings(void) {
+    uint8_t image[SHAWLTIDE_MIN_IMAGE];
+    uint64_t stray[SHAWLTIDE_HEAD] = {0, 1, SHAWLTIDE_MIN_BITS, 1};
+    memset(image, 7, sizeof image);
+    CHECK(SHAWLTIDE_REFUSAL(shawltide_image_write(no_ids, SHAWLTIDE_HEAD - 1, clear, 4, clear, 1, image, sizeof image)) == SHAWLTIDE_UNFIT_HEAD);
+    CHECK(SHAWLTIDE_REFUSAL(shawltide_image_write(stray, SHAWLTIDE_HEAD, clear, 3, clear, 1, image, 0)) == SHAWLTIDE_UNFIT_HEAD);
+    CHECK(SHAWLTIDE_REFUSAL(shawltide_image_write(stray, SHAWLTIDE_HEAD, clear, 4, clear, 1, image, 0)) == SHAWLTIDE_UNFIT_CONTENT);
+    CHECK(SHAWLTIDE_REFUSAL(shawltide_image_write(no_ids, SHAWLTIDE_HEAD, clear, 4, clear, 1, image, sizeof image - 1)) == SHAWLTIDE_SHORT_OUTPUT);
+    for (size_t i = 0; i < sizeof image; i++)
+        CHECK(image[i] == 7);
+}
+
+/* A refused reading changes out alone: the block of 14, else 0, and a head of zeros. A short out stays too. The image is of three blocks, with the first
+ * once more behind them. */
+static void refused_readings(void) {
+    const uint64_t head[SHAWLTIDE_HEAD] = {0, 1, 2000}, refusals[7] = {13, 13, 13, 14, 14, 15, 11}, blocks[7] = {0, 0, 0, 3, 1, 0, 0};
+    const size_t lengths[7] = {0, 1023, 1537, 2048, 1536, 1024, 1536};
+    static uint8_t image[4 * SHAWLTIDE_BLOCK_BYTES];
+    uint64_t words[SHAWLTIDE_WORDS(2000)] = {0}, samples[SHAWLTIDE_SAMPLES(2000)] = {0}, out[SHAWLTIDE_OUT];
+    CHECK(shawltide_image_write(head, SHAWLTIDE_HEAD, words, 32, samples, 4, image, sizeof image) == 3);
+    memcpy(image + 3 * SHAWLTIDE_BLOCK_BYTES, image, SHAWLTIDE_BLOCK_BYTES);
+    memset(words, 1, sizeof words), memset(samples, 1, sizeof samples);
+    const uint64_t before = words[0];
+    for (int i = 0; i < 7; i++) {
+        memset(out, 1, sizeof out);
+        image[600] = i == 4;
+        CHECK(SHAWLTIDE_REFUSAL(shawltide_image_read(image, lengths[i], words, 31, samples, 4, out, SHAWLTIDE_OUT)) == refusals[i]);
+        CHECK(out[0] == blocks[i] && all(out + 1, SHAWLTIDE_HEAD, 0) && all(words, 32, before) && all(samples, 4, before));
+    }
+    memset(out, 1, sizeof out);
+    CHECK(SHAWLTIDE_REFUSAL(shawltide_image_read(image, 0, words, 32, samples, 4, out, SHAWLTIDE_OUT - 1)) == SHAWLTIDE_SHORT_OUTPUT);
+    CHECK(all(out, SHAWLTIDE_OUT, before));
+}
+
 #define NUMBER(name) printf("%s %.17g\n", #name, (double)SHAWLTIDE_##name)
 
 static void bounds(void) {
     NUMBER(GAMMA), NUMBER(MIN_GAMMA), NUMBER(MAX_GAMMA), NUMBER(MAX_IDS), NUMBER(MIN_BITS), NUMBER(MAX_BITS);
     NUMBER(LEVEL_LIMIT), NUMBER(HEAD_SIZES), NUMBER(MAX_LEVELS), NUMBER(SAMPLE_WORDS), NUMBER(SAMPLE_BITS);
-    NUMBER(HEAD), NUMBER(OUT), NUMBER(PLACE);
+    NUMBER(HEAD), NUMBER(OUT), NUMBER(PLACE), NUMBER(BLOCK_BYTES), NUMBER(BLOCK_CONTENT), NUMBER(MIN_IMAGE), NUMBER(MAX_IMAGE);
 }
 
 static void refusals(void) {
     NUMBER(GAMMA_TOO_SMALL), NUMBER(GAMMA_TOO_LARGE), NUMBER(TOO_MANY_IDS), NUMBER(SHORT_WORK_STORE), NUMBER(NO_ROOM_FOR_LEVEL);
     NUMBER(IDS_REMAIN), NUMBER(UNFIT_HEAD), NUMBER(UNFIT_ROW), NUMBER(BIT_OUTSIDE), NUMBER(UNFIT_SET), NUMBER(SHORT_OUTPUT), NUMBER(WRONG_IDS);
+    NUMBER(UNFIT_LENGTH), NUMBER(BAD_BLOCK), NUMBER(UNFIT_CONTENT);
 }
 
 #define PLACES(number) printf(" %llu", (unsigned long long)(number))
@@ -185,12 +239,28 @@ static void room_numbers(void) {
         }
 }
 
+static void image_numbers(void) {
+    const uint64_t words[8] = {0, 4, 20, 21, 82, 83, 1000, UINT64_C(1) << 40};
+    const uint64_t bytes[6] = {0, 511, 512, SHAWLTIDE_MIN_IMAGE, 2560, UINT64_C(1) << 40};
+    for (int i = 0; i < 8; i++) {
+        printf("image of %llu words:", (unsigned long long)words[i]);
+        PLACES(SHAWLTIDE_IMAGE_BYTES(words[i], words[i] / 8));
+        printf("\n");
+    }
+    for (int i = 0; i < 6; i++) {
+        printf("room of an image of %llu bytes:", (unsigned long long)bytes[i]);
+        PLACES(SHAWLTIDE_IMAGE_WORDS(bytes[i])), PLACES(SHAWLTIDE_IMAGE_SAMPLES(bytes[i]));
+        printf("\n");
+    }
+}
+
 int main(int words, char **word) {
     if (words == 2 && strcmp(word[1], "numbers") == 0) {
         bounds();
         refusals();
         level_numbers();
         room_numbers();
+        image_numbers();
         return 0;
     }
     results();
@@ -198,5 +268,8 @@ int main(int words, char **word) {
     short_outs();
     refused_builds();
     rooms();
+    images();
+    refused_writings();
+    refused_readings();
     return failed;
 }

@@ -1,6 +1,6 @@
 //! What the crate says of threads.
 
-use shawltide::{BitSet, Index, Iter, Place, Refusal, Room, GAMMA};
+use shawltide::{BitSet, ImageError, Index, Iter, Place, Refusal, Room, GAMMA};
 use std::thread;
 
 const THREADS: u64 = 4;
@@ -14,6 +14,7 @@ fn ids(count: u64) -> Vec<u64> {
 fn every_type_may_go_to_another_thread_and_be_shared() {
     fn may<T: Send + Sync>() {}
     may::<Index>();
+    may::<ImageError>();
     may::<BitSet>();
     may::<Iter>();
     may::<Place>();

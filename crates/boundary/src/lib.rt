@@ -5,7 +5,7 @@ ghost use Rattle.refusal.specs.Answers.{untouched};
 ghost use Rattle.bitvector.specs.Calls.{newCall, onesCall, isEmptyCall, lenCall, containsCall, insertCall, removeCall, insertAllCall, eqLeftCall, membersCall};
 ghost use Rattle.run.specs.Stores.{stores};
 ghost use Rattle.rows.specs.Rows.{rowStores};
-ghost use Rattle.host.specs.Flat.{seen, seenOf, flatBuilt, flatBuild, flatLookup, flatRows};
+ghost use Rattle.host.specs.Flat.{seen, seenOf, flatBuilt, flatBuild, flatLookup, flatRows, flatLoaded, flatWrite, flatRead};
 
 fn set_empty(capacity: u64, words: &mut [u64]) -> u64
     ensures { λ r. ⌜ seen r (now (words .exit)) ≡ seenOf (newCall capacity (now (words .entry))) ⌝ }
@@ -101,4 +101,17 @@ fn rows(
         ≡ flatRows (now (head .entry)) (now (words .entry)) (now (samples .entry)) (now (ids .entry)) (now (rows .entry)) (now (marks .entry)) ⌝ }
 {
     host::shawltide_rows(head, words, samples, ids, rows, marks)
+}
+
+fn image_write(head: &[u64], words: &[u64], samples: &[u64], image: &mut [u8]) -> u64
+    ensures { λ r. ⌜ seen r (now (image .exit)) ≡ flatWrite (now (head .entry)) (now (words .entry)) (now (samples .entry)) (now (image .entry)) ⌝ }
+{
+    host::shawltide_image_write(head, words, samples, image)
+}
+
+fn image_read(image: &[u8], words: &mut [u64], samples: &mut [u64], out: &mut [u64]) -> u64
+    ensures { λ r. ⌜ seen r (flatLoaded (now (words .exit)) (now (samples .exit)) (now (out .exit)))
+        ≡ flatRead (now (image .entry)) (now (words .entry)) (now (samples .entry)) (now (out .entry)) ⌝ }
+{
+    host::shawltide_image_read(image, words, samples, out)
 }

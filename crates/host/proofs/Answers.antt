@@ -59,6 +59,6 @@ module _ {After : Type 0} where
   counted-seen {s = s} answer e h = seen-as (counted answer s) (e ∙ counted-number answer s) (counted-after _ answer s) ∙ ap seenOf h
 
 -- No room for a second answer: what a host sees, the number and every word of every store, is the same in any two calls that meet one promise. The promise
--- of each of the thirteen calls is `seen number stores ≡ x`, with an x of the values at entry.
+-- of each call is `seen number stores ≡ x`, with an x of the values at entry.
 pub seen-once : {After : Type 0} (x : Seen After) (m n : ℕ) (s t : After) → seen m s ≡ x → seen n t ≡ x → (m ≡ n) × (s ≡ t)
 seen-once {After} x m n s t e f = (ap (λ (y : Seen After). y .number) (e ∙ sym f), ap (λ (y : Seen After). y .after) (e ∙ sym f))

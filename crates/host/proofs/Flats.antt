@@ -10,10 +10,11 @@ use borrow.Author.Tests.{le-leb, lt-leb, eq-eqb, ne-eqb}
 use Rattle.laws.specs.Stores.{fronted}
 use Rattle.laws.proofs.Parts.{lent-from}
 use Rattle.refusal.specs.Table.{numberOf}
-use Rattle.refusal.specs.Answers.{made}
+use Rattle.refusal.specs.Answers.{Outcome, made, counted}
 use Rattle.refusal.specs.declared.Refusal.the-variants.{UnfitHead, ShortOutput}
 use Rattle.refusal.specs.declared.Made.{Made}
 use Rattle.refusal.specs.declared.Made.the-variants as M
+use Rattle.refusal.specs.declared.Counted.{Counted}
 use Rattle.head.specs.declared.Head.{Head}
 use Rattle.head.specs.Numbers.{headNumbers, headOf, numbersOf}
 use Rattle.run.specs.Stores.{Stores}
@@ -24,9 +25,10 @@ use Rattle.finding.specs.declared.Found.the-variants as F
 use Rattle.finding.specs.Find.{Answer, answerOf}
 use Rattle.lookup.specs.Lookup.{lookupCall}
 use Rattle.rows.specs.Rows.{RowStores, rowStores, rowsCall}
-use Rattle.host.specs.Numbers.{refusedNumber, ofMade, valueIn}
-use Rattle.host.specs.Flat.{seen, outPlaces, placePlaces, answerSeen, flatLookup, flatRows, flatBuilt, endSeen, flatBuild}
-use Rattle.host.proofs.Answers.{made-seen}
+use Rattle.image.specs.Image.{ReadAfter, readOf, writeCall, readCall}
+use Rattle.host.specs.Numbers.{refusedNumber, ofMade, ofCounted, valueIn}
+use Rattle.host.specs.Flat.{seen, outPlaces, placePlaces, answerSeen, flatLookup, flatRows, flatBuilt, endSeen, flatBuild, flatLoaded, readSeen, flatRead, flatWrite}
+use Rattle.host.proofs.Answers.{made-seen, counted-seen}
 
 -- ---- a row list
 
@@ -92,3 +94,31 @@ module _ (gamma : Float) (ids : List ℕ) (s : Stores) (out : List ℕ) where
   unfolding flatBuild
   build-asked answer head after h e v f w =
       rw (le-leb outPlaces (length out) h, w, v, e) (made-end answer head after out ∙ ap (λ (b : BuildEnd). endSeen b out) f)
+
+-- ---- an image
+
+module _ (head ws ss image : List ℕ) where
+  pub write-unheaded : {n : ℕ} → (length head ≡ headNumbers → ⊥) → n ≡ refusedNumber (numberOf UnfitHead) → seen n image ≡ flatWrite head ws ss image
+  unfolding flatWrite
+  write-unheaded h e = rw (ne-eqb (length head) headNumbers h, e)
+
+  pub write-headed : {n : ℕ} {after : List ℕ} (answer : Counted) → length head ≡ headNumbers → n ≡ ofCounted answer
+      → counted answer after ≡ writeCall (headOf head) ws ss image → seen n after ≡ flatWrite head ws ss image
+  unfolding flatWrite
+  write-headed answer h e f = rw (eq-eqb (length head) headNumbers h) (counted-seen answer e f)
+
+made-read : (answer : Made) (head : Head) (ws ss out : List ℕ)
+    → seen (ofMade answer) (flatLoaded ws ss (fronted (valueIn answer ∷ numbersOf head) out)) ≡ readSeen (readOf answer head ws ss) out
+made-read M.Done head ws ss out = refl
+made-read (M.Refused r) head ws ss out = refl
+
+module _ (image ws ss out : List ℕ) where
+  pub read-short : {n : ℕ} → length out < outPlaces → n ≡ refusedNumber (numberOf ShortOutput) → seen n (flatLoaded ws ss out) ≡ flatRead image ws ss out
+  unfolding flatRead
+  read-short h e = rw (lt-leb outPlaces (length out) h, e)
+
+  pub read-asked : {n value : ℕ} {out′ : List ℕ} (answer : Made) (head : Head) (us vs : List ℕ) → outPlaces ≤ length out → n ≡ ofMade answer → value ≡ valueIn answer
+      → readOf answer head us vs ≡ readCall image ws ss → out′ ≡ fronted (value ∷ numbersOf head) out → seen n (flatLoaded us vs out′) ≡ flatRead image ws ss out
+  unfolding flatRead
+  read-asked answer head us vs h e v f w =
+      rw (le-leb outPlaces (length out) h, w, v, e) (made-read answer head us vs out ∙ ap (λ (b : Outcome ReadAfter). readSeen b out) f)

@@ -3,7 +3,7 @@ use mathlib.Core.Path.{_≡_, refl, sym, ap, _∙_}
 use mathlib.Core.Bool.{Bool, true, false}
 use mathlib.Core.List.{List}
 use mathlib.Core.Option.{some}
-use Prim.Native.Nat.{ℕ, _-_, _≤_, _<_}
+use Prim.Native.Nat.{ℕ, _*_, _-_, _≤_, _<_}
 use native.Mathlib.Omega.{arith}
 use borrow.Author.Tests.{le-leb, lt-leb, ne-eqb}
 use lib.Dec.{leb, lit≤}
@@ -13,7 +13,7 @@ use Rattle.laws.specs.Counting.{rank}
 use Rattle.laws.proofs.Sums.{rank-le}
 use Rattle.refusal.specs.Table.{numberOf, valueOf}
 use Rattle.refusal.specs.declared.Refusal.{Refusal}
-use Rattle.refusal.specs.declared.Refusal.the-variants.{UnfitHead, UnfitSet, ShortOutput}
+use Rattle.refusal.specs.declared.Refusal.the-variants.{UnfitHead, UnfitSet, ShortOutput, UnfitContent}
 use Rattle.refusal.proofs.Apart.{numbered}
 use Rattle.refusal.specs.declared.Made.{Made}
 use Rattle.refusal.specs.declared.Made.the-variants as M
@@ -28,10 +28,12 @@ use Rattle.bitvector.proofs.Soundness.{sound-room}
 use Rattle.head.specs.declared.Head.{Head}
 use Rattle.finding.specs.declared.Found.{Found}
 use Rattle.finding.specs.declared.Found.the-variants as F
-use Rattle.head.specs.Layout.{sizeAt, fit}
+use Rattle.head.specs.Layout.{sizeAt, usedOf, unusedClear, fit}
 use Rattle.finding.specs.Find.{refusedFor, answerOf, rowIn}
 use Rattle.lookup.specs.Lookup.{lookupCall}
-use Rattle.head.proofs.Fits.{fit-known}
+use Rattle.head.proofs.Fits.{bounded-is, few-used, fit-known, measured-uses}
+use Rattle.block.specs.Block.{blockBytes}
+use Rattle.image.specs.Image.{imageBlocks, writeCall}
 use Rattle.lookup.proofs.Lookups.{lookup-fit, lookup-unfit}
 use Rattle.finding.proofs.Told.{found-below}
 use Rattle.host.specs.Numbers.{noneNumber, refusedNumber, ofMade, ofSaid, ofCounted, ofAnswer, value, noRow, refusal, reading, toldMade, toldSaid, toldCounted, toldFound}
@@ -91,6 +93,23 @@ module _ (capacity : ℕ) (ws : List ℕ) where
       let size = rank (setOf capacity ws) capacity in
       counted-read answer store
       (rw e (low-check (sound capacity ws) UnfitSet out _ (lit≤ tt) (λ s. low-check (leb size (length out)) ShortOutput out _ (lit≤ tt) (λ _. few-members s))))
+
+-- ---- a written image: no index takes so many blocks
+
+module _ (head : Head) (ws ss image : List ℕ) where
+  few-blocks : fit (head .count) (head .levels) (head .sizes) (length ws) (length ss) ≡ true → imageBlocks head ≤ maxBits
+  few-blocks e =
+      let b = bounded-is (head .count) (head .levels) (head .sizes) (fit-known (head .count) (head .levels) (head .sizes) (length ws) (length ss) e .bounds) in
+      let f = few-used (head .count) (head .levels) (head .sizes) (usedOf (head .levels) (head .sizes)) (measured-uses (head .count) (head .levels) (head .sizes) b) in
+      omega (arith, f .words, f .samples)
+
+  pub write-read : (answer : Counted) (after : List ℕ) → counted answer after ≡ writeCall head ws ss image → reading (ofCounted answer) ≡ toldCounted answer
+  unfolding writeCall
+  write-read answer after e =
+      counted-read answer after
+      (rw e (low-check (fit (head .count) (head .levels) (head .sizes) (length ws) (length ss)) UnfitHead image _ (lit≤ tt)
+      (λ f. low-check (unusedClear (head .levels) (head .sizes)) UnfitContent image _ (lit≤ tt)
+      (λ u. low-check (leb (blockBytes * imageBlocks head) (length image)) ShortOutput image _ (lit≤ tt) (λ l. few-blocks f)))))
 
 -- ---- a lookup: no row is as large as the id bound
 

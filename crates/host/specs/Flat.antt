@@ -16,6 +16,7 @@ use Rattle.build.specs.Build.{BuildEnd, buildCall}
 use Rattle.finding.specs.Find.{Answer, found, nothing, refused}
 use Rattle.lookup.specs.Lookup.{lookupCall}
 use Rattle.rows.specs.Rows.{RowStores, rowStores, rowsCall}
+use Rattle.image.specs.Image.{ReadAfter, writeCall, readCall}
 use Rattle.host.specs.Numbers.{refusedNumber, ofOutcome, ofAnswer}
 
 -- what a host sees: the number, and the stores that the call may write, after it
@@ -33,6 +34,10 @@ module _ {After : Type 0} where
 
   abbrev pub seenRefused : After → Refusal → Seen After
   seenRefused after r = seen (refusedNumber (numberOf r)) after
+
+-- a call that takes a head needs as many numbers as a head is
+abbrev pub isHead : List ℕ → Bool
+isHead ns = eqb (length ns) headNumbers
 
 -- ---- a build: first `out` is asked, which gets the value of refusal 5 or 6, else 0, and the head; its later places stay
 
@@ -55,6 +60,29 @@ flatBuild gamma ids s out =
     check (leb outPlaces (length out)) ShortOutput (seenRefused (flatBuilt s out))
     (endSeen (buildCall gamma ids s) out)
 
+-- ---- an image: what reading it leaves, with `out` as in a build; of writing it first the length of the head is asked
+
+pub record FlatLoaded : Type 0 where
+  pub words : List ℕ
+  pub samples : List ℕ
+  pub out : List ℕ
+
+abbrev pub flatLoaded : List ℕ → List ℕ → List ℕ → FlatLoaded
+flatLoaded ws ss out = record { words = ws; samples = ss; out = out }
+
+abbrev pub readSeen : Outcome ReadAfter → List ℕ → Seen FlatLoaded
+readSeen end out = seen (ofOutcome end) (flatLoaded (end .after .words) (end .after .samples) (fronted (end .value ∷ numbersOf (end .after .head)) out))
+
+unfoldable pub flatRead : List ℕ → List ℕ → List ℕ → List ℕ → Seen FlatLoaded
+flatRead image ws ss out =
+    check (leb outPlaces (length out)) ShortOutput (seenRefused (flatLoaded ws ss out))
+    (readSeen (readCall image ws ss) out)
+
+unfoldable pub flatWrite : List ℕ → List ℕ → List ℕ → List ℕ → Seen (List ℕ)
+flatWrite head ws ss image =
+    check (isHead head) UnfitHead (seenRefused image)
+    (seenOf (writeCall (headOf head) ws ss image))
+
 -- ---- a lookup: first `place` is asked, which gets the level and the position of a row, and else stays; then the length of the head
 
 -- the places that `place` needs
@@ -68,10 +96,6 @@ placeFor (refused r value) place = place
 
 abbrev pub answerSeen : Answer → List ℕ → Seen (List ℕ)
 answerSeen answer place = seen (ofAnswer answer) (placeFor answer place)
-
--- a lookup or a row list needs a head of as many numbers as a head is
-abbrev pub isHead : List ℕ → Bool
-isHead ns = eqb (length ns) headNumbers
 
 unfoldable pub flatLookup : List ℕ → List ℕ → List ℕ → ℕ → List ℕ → Seen (List ℕ)
 flatLookup head ws ss x place =

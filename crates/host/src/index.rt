@@ -17,8 +17,8 @@ use head::numbers;
 use head::numbers::NUMBERS;
 use refusal::Refusal;
 
-// How many places the `out` of a build needs: one for a value, and the head's.
-const OUT: usize = 1 + NUMBERS;
+// How many places `out` needs: one for a value, and the head's.
+pub(crate) const OUT: usize = 1 + NUMBERS;
 
 // How many places the `place` of a lookup needs: level and position.
 const PLACE: usize = 2;
@@ -49,7 +49,13 @@ pub extern "C" fn shawltide_build(
 }
 
 // The value and the head's numbers, at the front of `out`.
-fn write_out(value: u64, count: u64, levels: u64, sizes: &[u64; HEAD_SIZES], out: &mut [u64])
+pub(crate) fn write_out(
+    value: u64,
+    count: u64,
+    levels: u64,
+    sizes: &[u64; HEAD_SIZES],
+    out: &mut [u64],
+)
     requires { ⌜ (length (now sizes) ≡ headSizes) × (outPlaces ≤ length (now out)) ⌝ }
     ensures { λ r. ⌜ now (out .exit)
         ≡ fronted (value ∷ numbersOf (record { count = count; levels = levels; sizes = now (sizes .entry) })) (now (out .entry)) ⌝ }

@@ -2,7 +2,7 @@
 use Prim.Native.Nat.{ℕ}
 use Rattle.refusal.specs.declared.Refusal.{Refusal}
 use Rattle.refusal.specs.declared.Refusal.the-variants.{GammaTooSmall, GammaTooLarge, TooManyIds, ShortWorkStore, NoRoomForLevel, IdsRemain}
-use Rattle.refusal.specs.declared.Refusal.the-variants.{UnfitHead, UnfitRow, BitOutside, UnfitSet, ShortOutput, WrongIds}
+use Rattle.refusal.specs.declared.Refusal.the-variants.{UnfitHead, UnfitRow, BitOutside, UnfitSet, ShortOutput, WrongIds, UnfitLength, BadBlock, UnfitContent}
 
 abbrev pub numberOf : Refusal → ℕ
 numberOf GammaTooSmall = 1
@@ -17,12 +17,15 @@ numberOf BitOutside = 9
 numberOf UnfitSet = 10
 numberOf ShortOutput = 11
 numberOf WrongIds = 12
+numberOf UnfitLength = 13
+numberOf (BadBlock block) = 14
+numberOf UnfitContent = 15
 
 -- the last number of the table
 abbrev pub lastNumber : ℕ
-lastNumber = 12
+lastNumber = 15
 
--- 5 carries the level, 6 how many ids remain; the others nothing, which is 0
+-- 5 carries the level, 6 how many ids remain, 14 the block; the others nothing, which is 0
 abbrev pub valueOf : Refusal → ℕ
 valueOf GammaTooSmall = 0
 valueOf GammaTooLarge = 0
@@ -36,3 +39,6 @@ valueOf BitOutside = 0
 valueOf UnfitSet = 0
 valueOf ShortOutput = 0
 valueOf WrongIds = 0
+valueOf UnfitLength = 0
+valueOf (BadBlock block) = block
+valueOf UnfitContent = 0

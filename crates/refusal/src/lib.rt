@@ -23,10 +23,16 @@ pub enum Refusal {
     BitOutside,
     // 10: the store does not hold a set of the capacity.
     UnfitSet,
-    // 11: the member, row or mark store is too short.
+    // 11: a store that the call writes is too short.
     ShortOutput,
     // 12: the ids are not those of the index.
     WrongIds,
+    // 13: the image is too short, or not whole blocks.
+    UnfitLength,
+    // 14: this block has a wrong number or check, and is the first such.
+    BadBlock(u64),
+    // 15: no content of an image: of blocks that are read, or of a head that is to be written.
+    UnfitContent,
 }
 
 // What a call answers: done; yes or no; a count. Each can be a refusal with its reason.
@@ -63,10 +69,13 @@ pub fn number(r: Refusal) -> u64
         Refusal::UnfitSet => 10,
         Refusal::ShortOutput => 11,
         Refusal::WrongIds => 12,
+        Refusal::UnfitLength => 13,
+        Refusal::BadBlock(_) => 14,
+        Refusal::UnfitContent => 15,
     }
 }
 
-// The value that 5 or 6 carries, else 0.
+// The value that 5, 6 or 14 carries, else 0.
 pub fn value(r: Refusal) -> u64
     ensures { λ n. ⌜ n ≡ valueOf r ⌝ }
 {
@@ -83,5 +92,8 @@ pub fn value(r: Refusal) -> u64
         Refusal::UnfitSet => 0,
         Refusal::ShortOutput => 0,
         Refusal::WrongIds => 0,
+        Refusal::UnfitLength => 0,
+        Refusal::BadBlock(block) => block,
+        Refusal::UnfitContent => 0,
     }
 }

@@ -3,8 +3,9 @@
 use crate::calls::{Act, Calls, Sets};
 use crate::lent::{same_number, same_store, Compared, Difference, Lent};
 use crate::reading::bounds::LAST_REFUSAL;
+use crate::reading::image::ReadStores;
 use crate::reading::index::{Given, Run, Stores};
-use crate::reading::{index, set, NONE};
+use crate::reading::{image, index, set, NONE};
 use oracle::draw::Draw;
 use std::collections::BTreeMap;
 
@@ -15,6 +16,8 @@ pub struct Bench<'a> {
     pub draw: Draw,
     /// How many calls of each kind, with each sort of answer, were found equal.
     pub equal: Tally,
+    /// How many images were lent.
+    images: usize,
 }
 
 impl Bench<'_> {
@@ -23,6 +26,7 @@ impl Bench<'_> {
             calls,
             draw: Draw::new(seed),
             equal: BTreeMap::new(),
+            images: 0,
         }
     }
 
@@ -38,6 +42,18 @@ impl Bench<'_> {
     /// Places with anything in them.
     pub fn anything(&mut self, places: usize) -> Vec<u64> {
         (0..places).map(|_| self.draw.next()).collect()
+    }
+
+    /// Bytes with anything in them.
+    pub fn any_bytes(&mut self, bytes: usize) -> Vec<u8> {
+        let words = self.anything(bytes / 8 + 1);
+        words.iter().flat_map(|word| word.to_le_bytes()).take(bytes).collect()
+    }
+
+    /// The image in a store of its own: 0 to 7 bytes past a multiple of 8, each in turn.
+    fn lent_image(&mut self, image: &[u8]) -> Lent<u8> {
+        self.images += 1;
+        Lent::at(self.images % 8, image)
     }
 
     /// One of them.
@@ -88,6 +104,40 @@ impl Bench<'_> {
         Ok(())
     }
 
+    /// The writer of images is the reading's: its result, and every byte of the image store. What it was given is as it was.
+    pub fn image_write(&mut self, given: &Given, store: &[u8]) -> Result<(u64, Vec<u8>), Difference> {
+        let (wanted, after) = given.write(store);
+        let mut image = self.lent_image(store);
+        let mut lent = given.named().map(|(_, part)| Lent::new(part));
+        let [head, words, samples] = &mut lent;
+        let parts = [head, words, samples].map(|part| &*part.content());
+        let result = self.calls.image_write(parts, image.content());
+        same_number("result of image_write", result, wanted)?;
+        image.holds("image", &after)?;
+        for (lent, (name, part)) in lent.iter_mut().zip(given.named()) {
+            lent.holds(name, part)?;
+        }
+        self.counted("image write", result);
+        Ok((result, after))
+    }
+
+    /// The reader of images is the reading's: its result, and what it leaves in every store. The image is as it was.
+    pub fn image_read(&mut self, image: &[u8], before: &ReadStores) -> Result<(u64, ReadStores), Difference> {
+        let (wanted, after) = image::read(image, before);
+        let mut given = self.lent_image(image);
+        let mut lent = before.named().map(|(_, store)| Lent::new(store));
+        let [words, samples, out] = &mut lent;
+        let stores = [words, samples, out].map(Lent::content);
+        let result = self.calls.image_read(given.content(), stores);
+        same_number("result of image_read", result, wanted)?;
+        for (lent, (name, store)) in lent.iter_mut().zip(after.named()) {
+            lent.holds(name, store)?;
+        }
+        given.holds("image", image)?;
+        self.counted("image read", result);
+        Ok((result, after))
+    }
+
     /// A call on sets is the reading's: its result, the words and the store for members.
     pub fn set(&mut self, act: Act, given: &Sets) -> Result<(u64, Vec<u64>, Vec<u64>), Difference> {
         let (wanted, words_after, out_after) = read(act, given);
@@ -133,9 +183,8 @@ fn read(act: Act, given: &Sets) -> (u64, Vec<u64>, Vec<u64>) {
 
 /// What was lent to be read is as it was.
 pub fn same_given(given: &Given, before: &Given) -> Compared {
-    same_store("head", &given.head, &before.head)?;
-    same_store("words", &given.words, &before.words)?;
-    same_store("samples", &given.samples, &before.samples)
+    let mut parts = given.named().into_iter().zip(before.named());
+    parts.try_for_each(|((name, part), (_, before))| same_store(name, part, before))
 }
 
 /// The Rust's index and the reading's have the same sizes, words and samples.

@@ -1,5 +1,6 @@
 //! The calls under test. Tests of the comparison itself put others in their place, which it has to find out.
 
+use crate::reading::image::ReadStores;
 use crate::reading::index::{Given, Stores};
 use shawltide::host;
 
@@ -42,6 +43,14 @@ pub trait Calls {
         host::rows(&given.head, &given.words, &given.samples, ids, rows, marks)
     }
 
+    fn image_write(&self, [head, words, samples]: [&[u64]; 3], image: &mut [u8]) -> u64 {
+        host::image_write(head, words, samples, image)
+    }
+
+    fn image_read(&self, image: &[u8], [words, samples, out]: [&mut [u64]; 3]) -> u64 {
+        host::image_read(image, words, samples, out)
+    }
+
     fn set(&self, act: Act, given: &Sets, words: &mut [u64], out: &mut [u64]) -> u64 {
         let (capacity, other_capacity, other) = (given.capacity, given.other_capacity, &given.other);
         match act {
@@ -77,5 +86,19 @@ impl Stores {
             ("rest", &self.rest),
             ("out", &self.out),
         ]
+    }
+}
+
+impl Given {
+    /// With their names, in the order of the calls' parameters.
+    pub fn named(&self) -> [(&'static str, &[u64]); 3] {
+        [("head", &self.head), ("words", &self.words), ("samples", &self.samples)]
+    }
+}
+
+impl ReadStores {
+    /// With their names, in the order of the reader's parameters.
+    pub fn named(&self) -> [(&'static str, &[u64]); 3] {
+        [("words", &self.words), ("samples", &self.samples), ("out", &self.out)]
     }
 }

@@ -68,7 +68,7 @@ fn damage(bench: &mut Bench, given: &mut Given) {
 }
 
 /// A number next to this one or to a bound.
-fn other(bench: &mut Bench, number: u64, most: u64) -> u64 {
+pub fn other(bench: &mut Bench, number: u64, most: u64) -> u64 {
     let near = [number.wrapping_sub(1), number.wrapping_add(1)];
     let bounds = [0, MIN_BITS - 1, MIN_BITS, most, most + 1, u64::MAX];
     if bench.draw.below(2) == 0 {

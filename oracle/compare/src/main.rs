@@ -1,9 +1,11 @@
 //! boomphf, the proved calls of libhost.a and a plain reading of the scope document, side by side. `README.md` of the oracle says more.
 
 mod bench;
+mod broken;
 mod builds;
 mod calls;
 mod damage;
+mod images;
 mod lent;
 mod plan;
 mod reading;

@@ -3,8 +3,9 @@
 use crate::bench::{Bench, Tally};
 use crate::calls::Calls;
 use crate::lent::{Compared, Difference};
-use crate::reading::bounds::{MAX_BITS, MAX_GAMMA, MAX_IDS, MIN_GAMMA};
-use crate::{builds, damage, sets};
+use crate::reading::bounds::{BLOCK_CONTENT, MAX_BITS, MAX_GAMMA, MAX_IDS, MIN_GAMMA};
+use crate::reading::index::Given;
+use crate::{broken, builds, damage, images, sets};
 use oracle::bounds::LEAST_GAMMA;
 use oracle::draw::Draw;
 use oracle::ids::{colliding, consecutive, doubled, multiples, random, repeated};
@@ -24,6 +25,12 @@ pub struct Plan {
     pub sets: u64,
     /// Sets with about the largest capacity.
     pub largest_sets: u64,
+    /// Images of indexes of up to 3,000 ids, and as many of drawn levels.
+    pub images: u64,
+    /// Of up to 100 ids, with every bit turned and every length.
+    pub small_images: u64,
+    /// Of as many different ids as an index can have.
+    pub largest_images: u64,
 }
 
 pub const QUICK: Plan = Plan {
@@ -34,6 +41,9 @@ pub const QUICK: Plan = Plan {
     colliding: &[(1 << 18, 4)],
     sets: 5_000,
     largest_sets: 4,
+    images: 100,
+    small_images: 10,
+    largest_images: 2,
 };
 
 pub const LONG: Plan = Plan {
@@ -44,6 +54,9 @@ pub const LONG: Plan = Plan {
     colliding: &[(1 << 18, 4), (1 << 20, 4), (1 << 22, 5), (1 << 22, 5)],
     sets: 200_000,
     largest_sets: 40,
+    images: 3_000,
+    small_images: 300,
+    largest_images: 12,
 };
 
 /// The least gamma, the largest, and some between.
@@ -71,6 +84,7 @@ impl Plan {
         self.largest(&mut bench)?;
         self.crafted(&mut bench)?;
         self.sets(&mut bench)?;
+        self.images(&mut bench)?;
         complete(&bench.equal)?;
         Ok(bench.equal)
     }
@@ -111,6 +125,35 @@ impl Plan {
         }
         Ok(())
     }
+
+    /// Of no ids, of one and of three always; with each number of words that a fill can have; drawn; the largest.
+    fn images(&self, bench: &mut Bench) -> Compared {
+        for count in [0, 1, 3] {
+            let ids = random(&mut bench.draw, count);
+            imaged(bench, images::built(1.7, &ids), &[FITS_AND_DAMAGE, CAUSES, EVERY_BIT])?;
+        }
+        for fill in 0..BLOCK_CONTENT {
+            let index = images::with_fill(bench, fill);
+            imaged(bench, Some(index), &[FITS_AND_DAMAGE, CAUSES])?;
+        }
+        named("image of the largest level", images::largest_level(bench))?;
+        for _ in 0..self.images {
+            let (gamma, ids) = (gamma(&mut bench.draw), ids(&mut bench.draw, 3_000));
+            imaged(bench, images::built(gamma, &ids), &[FITS_AND_DAMAGE, CAUSES])?;
+            let index = images::drawn(bench);
+            imaged(bench, Some(index), &[FITS_AND_DAMAGE, CAUSES])?;
+        }
+        for _ in 0..self.small_images {
+            let (gamma, ids) = (gamma(&mut bench.draw), ids(&mut bench.draw, 100));
+            imaged(bench, images::built(gamma, &ids), &[FITS_AND_DAMAGE, CAUSES, EVERY_BIT])?;
+        }
+        for number in 0..self.largest_images as usize {
+            let gamma = [MAX_GAMMA, 1.7, LEAST_GAMMA][number % 3];
+            let ids = random(&mut bench.draw, MAX_IDS);
+            imaged(bench, images::built(gamma, &ids), &[FITS_AND_DAMAGE])?;
+        }
+        Ok(())
+    }
 }
 
 /// On both sides of the bound.
@@ -123,6 +166,8 @@ fn complete(equal: &Tally) -> Compared {
         ("lookup", &[7, 8, 11]),
         ("row list", &[7, 11, 12]),
         ("set call", &[9, 10, 11]),
+        ("image write", &[7, 11, 15]),
+        ("image read", &[11, 13, 14, 15]),
     ];
     let answers = refusals.iter().flat_map(|(kind, numbers)| {
         let refused = numbers.iter().map(move |number| format!("{kind}, refusal {number}"));
@@ -159,6 +204,27 @@ fn indexed(bench: &mut Bench, gamma: f64, ids: &[u64]) -> Compared {
     let name = format!("gamma {gamma:?}, {} ids from {:?}", ids.len(), ids.first());
     named(&name, builds::case(bench, gamma, ids))?;
     named(&name, damage::case(bench, gamma, ids))
+}
+
+/// What is done with the image of an index.
+type ImageCases = &'static [fn(&mut Bench, &Given) -> Compared];
+
+/// Stores of every fit, and damage of every sort.
+const FITS_AND_DAMAGE: ImageCases = &[images::case, broken::lengths, broken::drawn];
+
+/// Every cause of a refusal, by itself and with others.
+const CAUSES: ImageCases = &[images::unwritten, broken::mended, broken::misplaced];
+
+/// Of images that are small.
+const EVERY_BIT: ImageCases = &[broken::every_bit, broken::every_length];
+
+/// The image of an index, if there is one.
+fn imaged(bench: &mut Bench, index: Option<Given>, cases: &[ImageCases]) -> Compared {
+    index.map_or(Ok(()), |index| {
+        let name = format!("image of {} ids in {} levels", index.head[0], index.head[1]);
+        let mut cases = cases.iter().copied().flatten();
+        cases.try_for_each(|case| named(&name, case(bench, &index)))
+    })
 }
 
 fn gamma(draw: &mut Draw) -> f64 {

@@ -2,6 +2,7 @@
 //! has nothing of boomphf, of the oracle's mixer or of the proved code, bounds included.
 
 pub mod bounds;
+pub mod image;
 pub mod index;
 pub mod set;
 
@@ -46,6 +47,6 @@ fn filled(content: Vec<u64>, places: usize) -> Vec<u64> {
 }
 
 /// The store with the content at its front.
-fn fronted(content: &[u64], store: &[u64]) -> Vec<u64> {
+fn fronted<T: Clone>(content: &[T], store: &[T]) -> Vec<T> {
     [content, &store[content.len()..]].concat()
 }

@@ -1,5 +1,7 @@
 //! Time of build and lookup at a million ids: boomphf against the crate of window/.
 
+mod images;
+
 use oracle::boomphf::Mphf;
 use oracle::gammas::{best, ids, nanoseconds_an_id, timed, Shape, GAMMAS};
 use shawltide::{Index, Refusal};
@@ -22,7 +24,7 @@ pub fn measure() -> Result<(), Box<dyn Error>> {
     let [rust_build, our_build, rust_lookup, our_lookup] = times.map(median);
     report("build", rust_build, our_build);
     report("lookup", rust_lookup, our_lookup);
-    Ok(())
+    Ok(images::measure(&ids)?)
 }
 
 /// The table of gammas, with the best of each.

@@ -1,5 +1,7 @@
 //! The comparison finds out calls that are not as promised: each of these is wrong in one thing.
 
+mod images;
+
 use crate::calls::{Act, BuildStores, Calls, Proved, Sets};
 use crate::lent::Lent;
 use crate::plan::Plan;
@@ -15,6 +17,9 @@ const FEW: Plan = Plan {
     colliding: &[],
     sets: 200,
     largest_sets: 0,
+    images: 4,
+    small_images: 0,
+    largest_images: 0,
 };
 
 fn finds(calls: &dyn Calls) -> bool {
@@ -215,4 +220,16 @@ fn a_store_knows_what_lies_beside_it() {
     let place = store.content().as_mut_ptr();
     unsafe { *place.add(3) = 0 };
     assert!(store.holds("store", &[1, 2, 3]).is_err());
+}
+
+#[test]
+fn bytes_lie_as_far_past_a_multiple_of_eight_as_is_said() {
+    for past in 0..8 {
+        let mut store = Lent::at(past, &[1, 2, 3]);
+        assert!(store.holds("store", &[1, 2, 3]).is_ok());
+        let place = store.content().as_mut_ptr();
+        assert_eq!(place as usize % 8, past);
+        unsafe { *place.sub(1) = 0 };
+        assert!(store.holds("store", &[1, 2, 3]).is_err());
+    }
 }

@@ -38,5 +38,17 @@ pub const OUT: usize = 1 + HEAD;
 /// What `place` of a lookup needs: level and position.
 pub const PLACE: usize = 2;
 
+/// A block of an image in bytes,
+pub const BLOCK_BYTES: usize = 512;
+
+/// in words,
+pub const BLOCK_WORDS: usize = 64;
+
+/// and in words that carry content: all but its number, which comes first, and its check, which comes last.
+pub const BLOCK_CONTENT: usize = 62;
+
+/// The fewest bytes of an image.
+pub const MIN_IMAGE: usize = 1_024;
+
 /// The last number of the table of refusals.
-pub const LAST_REFUSAL: u64 = 12;
+pub const LAST_REFUSAL: u64 = 15;

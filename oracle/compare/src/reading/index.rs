@@ -13,7 +13,12 @@ fn seed_word(level: usize) -> u64 {
 }
 
 fn hash(level: usize, id: u64) -> u64 {
-    let sum = modulo(u128::from(id) + u128::from(seed_word(level)) + 0x9E37_79B9_7F4A_7C15);
+    mixed(id, seed_word(level))
+}
+
+/// The plain mixer.
+pub fn mixed(word: u64, seed_word: u64) -> u64 {
+    let sum = modulo(u128::from(word) + u128::from(seed_word) + 0x9E37_79B9_7F4A_7C15);
     let first = modulo(u128::from(sum ^ (sum >> 30)) * 0xBF58_476D_1CE4_E5B9);
     let second = modulo(u128::from(first ^ (first >> 27)) * 0x94D0_49BB_1331_11EB);
     second ^ (second >> 31)
@@ -169,7 +174,18 @@ impl Run {
     }
 }
 
-/// Any head and stores, as they are given to a lookup or a row list.
+/// How many words and samples the sizes of a head ask for; or nothing where 7 is due for the head alone.
+pub fn asked(head: &[u64]) -> Option<[usize; 2]> {
+    if head.len() != HEAD || head[0] > MAX_IDS || !(1..=MAX_LEVELS as u64).contains(&head[1]) {
+        return None;
+    }
+    let sizes = &head[2..2 + head[1] as usize];
+    let bounded = sizes.iter().all(|size| (MIN_BITS..=MAX_BITS).contains(size));
+    let sum = |need: fn(u64) -> usize| sizes.iter().map(|size| need(*size)).sum();
+    bounded.then(|| [sum(words_for), sum(samples_for)])
+}
+
+/// Any head and stores, as they are given to a lookup, a row list or the writer of images.
 #[derive(Clone, Debug)]
 pub struct Given {
     pub head: Vec<u64>,
@@ -188,12 +204,9 @@ impl Given {
 
     /// Not refused with 7.
     pub fn fits(&self) -> bool {
-        self.head.len() == HEAD
-            && self.count() <= MAX_IDS
-            && (1..=MAX_LEVELS as u64).contains(&self.head[1])
-            && self.sizes().iter().all(|size| (MIN_BITS..=MAX_BITS).contains(size))
-            && self.sizes().iter().map(|size| words_for(*size)).sum::<usize>() <= self.words.len()
-            && self.sizes().iter().map(|size| samples_for(*size)).sum::<usize>() <= self.samples.len()
+        asked(&self.head).map_or(false, |[words, samples]| {
+            words <= self.words.len() && samples <= self.samples.len()
+        })
     }
 
     /// The row, level and position of an id, none, or 8; of a head that fits.

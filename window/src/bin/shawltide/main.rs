@@ -1,23 +1,23 @@
-//! The command: ids from a file to rows. `help.txt` says how it is used.
+//! The command: ids from a file to rows, and indexes to images. `help.txt` says how it is used.
 
 mod input;
+mod making;
 mod quoted;
 mod report;
 mod streams;
 mod words;
 
-use input::{read_ids, Lines};
+use input::Lines;
+use making::{report, Built, Input};
 use quoted::named;
 use report::Report;
-use shawltide::{Index, FORM};
+use shawltide::FORM;
 use std::ffi::{OsStr, OsString};
 use std::fmt::Display;
-use std::fs::File;
 use std::io::{self, BufWriter, ErrorKind, Write};
 use std::process::ExitCode;
-use std::time::Instant;
-use streams::{say, Progress};
-use words::{Asked, Options, Wanted};
+use streams::say;
+use words::{Asked, Source, Wanted};
 
 const HELP: &str = include_str!("help.txt");
 
@@ -26,7 +26,7 @@ const HELP: &str = include_str!("help.txt");
 pub enum Failure {
     /// The words are wrong.
     Usage(String),
-    /// Something cannot be read, built or written.
+    /// Something cannot be read, built or written, or is damaged.
     Failed(String),
     /// Nobody reads what is written.
     Unread,
@@ -35,7 +35,7 @@ pub enum Failure {
 /// How a command ended that came to its end.
 enum Ended {
     Done,
-    NoMember,
+    NoneFound,
 }
 
 impl Failure {
@@ -63,7 +63,7 @@ fn main() -> ExitCode {
     let words: Vec<OsString> = std::env::args_os().skip(1).collect();
     let (status, message) = match words::asked(&words).and_then(run) {
         Ok(Ended::Done) | Err(Failure::Unread) => return ExitCode::SUCCESS,
-        Ok(Ended::NoMember) => return ExitCode::from(1),
+        Ok(Ended::NoneFound) => return ExitCode::from(1),
         Err(Failure::Usage(message)) => (2, message),
         Err(Failure::Failed(message)) => (3, message),
     };
@@ -72,13 +72,22 @@ fn main() -> ExitCode {
 }
 
 fn run(asked: Asked) -> Result<Ended, Failure> {
-    let mut out = BufWriter::new(streams::output()?);
     match asked {
-        Asked::Help => write(HELP, &mut out),
-        Asked::Version => write(&version(), &mut out),
-        Asked::Rows(file, options) => rows(&file, &options, &mut out),
-        Asked::Lookup(file, wanted, options) => lookup(&file, wanted, &options, &mut out),
+        Asked::Help => write(HELP, &mut output()?),
+        Asked::Version => write(&version(), &mut output()?),
+        Asked::Build {
+            file,
+            image,
+            gamma,
+            quiet,
+        } => build(&file, &image, gamma, quiet),
+        Asked::Rows { from, quiet } => rows(&from, quiet, &mut output()?),
+        Asked::Lookup { from, wanted, quiet } => lookup(&from, wanted, quiet, &mut output()?),
     }
+}
+
+fn output() -> io::Result<impl Write> {
+    Ok(BufWriter::new(streams::output()?))
 }
 
 fn write(text: &str, out: &mut dyn Write) -> Result<Ended, Failure> {
@@ -92,68 +101,67 @@ fn version() -> String {
     format!("shawltide {version}\nform of the index: {FORM}\nproved with: {toolchain}\n")
 }
 
-fn rows(file: &OsStr, options: &Options, out: &mut dyn Write) -> Result<Ended, Failure> {
-    let report = report(file, options)?;
-    report.rows(out)?;
-    out.flush()?;
-    summary(&report, options);
+/// An image must not take the place of the ids that it is built of, nor of anything but an image.
+fn build(file: &OsStr, image: &OsStr, gamma: f64, quiet: bool) -> Result<Ended, Failure> {
+    let input = Input::open(file)?;
+    if input.is(image) {
+        return Err(Failure::of(
+            image,
+            "it is the file of the ids; give another for the image",
+        ));
+    }
+    making::ask_place(image)?;
+    let Built { index, time, .. } = input.build(gamma, quiet)?;
+    index.save(image).map_err(|error| making::failure(image, error))?;
+    if !quiet {
+        let summary = report::summary(&index, time);
+        say(&format!("{summary}, bytes written {}", index.room().image_bytes()));
+    }
     Ok(Ended::Done)
 }
 
-fn lookup(file: &OsStr, wanted: Wanted, options: &Options, out: &mut dyn Write) -> Result<Ended, Failure> {
-    let report = report(file, options)?;
-    let mut members = 0;
+fn rows(from: &Source, quiet: bool, out: &mut dyn Write) -> Result<Ended, Failure> {
+    let report = report(from, quiet)?;
+    report.rows(out)?;
+    out.flush()?;
+    summary(&report, quiet);
+    Ok(Ended::Done)
+}
+
+fn lookup(from: &Source, wanted: Wanted, quiet: bool, out: &mut dyn Write) -> Result<Ended, Failure> {
+    let report = report(from, quiet)?;
+    let mut found = 0;
     match wanted {
         Wanted::Given(ids) => {
             for id in ids {
-                members += u64::from(report.lookup(id, out)?);
+                found += u64::from(report.lookup(id, out)?);
             }
         }
-        Wanted::FromInput => members = asked_on_input(&report, out)?,
+        Wanted::FromInput => found = asked_on_input(&report, out)?,
     }
     out.flush()?;
-    summary(&report, options);
-    Ok(if members == 0 { Ended::NoMember } else { Ended::Done })
+    summary(&report, quiet);
+    Ok(if found == 0 { Ended::NoneFound } else { Ended::Done })
 }
 
-/// Looks up the ids of standard input, and counts the members. What was asked is answered before more is waited for.
+/// Looks up the ids of standard input, and counts those that are found. What was asked is answered before more is waited for.
 fn asked_on_input(report: &Report, out: &mut dyn Write) -> Result<u64, Failure> {
     let bad = |what: &dyn Display| Failure::of(OsStr::new("-"), what);
     let mut lines = Lines::new(streams::input().map_err(|error| bad(&error))?);
-    let mut members = 0;
+    let mut found = 0;
     loop {
         if lines.waits() {
             out.flush()?;
         }
         match lines.next_id().map_err(|error| bad(&error))? {
-            Some(id) => members += u64::from(report.lookup(id, out)?),
-            None => return Ok(members),
+            Some(id) => found += u64::from(report.lookup(id, out)?),
+            None => return Ok(found),
         }
     }
 }
 
-fn summary(report: &Report, options: &Options) {
-    if !options.quiet {
-        say(&report.summary());
+fn summary(report: &Report, quiet: bool) {
+    if !quiet {
+        say(&report::summary(&report.index, report.time));
     }
-}
-
-/// The index of a file's ids and what there is to say about it.
-fn report(file: &OsStr, options: &Options) -> Result<Report, Failure> {
-    let bad = |what: &dyn Display| Failure::of(file, what);
-    let typed = file == "-" && streams::input_is_terminal();
-    let mut progress = Progress::new(options.quiet || typed);
-    let input = if file == "-" {
-        streams::input()
-    } else {
-        File::open(file)
-    };
-    let input = input.map_err(|error| bad(&error))?;
-    let ids = read_ids(Lines::new(&input), |ids| progress.reading(&input, ids)).map_err(|error| bad(&error))?;
-    progress.building(ids.len());
-    let start = Instant::now();
-    let index = Index::build(&ids, options.gamma).map_err(|refusal| bad(&refusal))?;
-    let time = start.elapsed();
-    let rows = index.rows(&ids).map_err(|refusal| bad(&refusal))?;
-    Ok(Report { index, rows, time })
 }

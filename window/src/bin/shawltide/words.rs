@@ -5,14 +5,38 @@ use crate::quoted::named;
 use crate::Failure;
 use shawltide::{Index, GAMMA};
 use std::ffi::{OsStr, OsString};
+use std::os::unix::ffi::OsStrExt;
 
 /// A file's name need not be text.
 #[derive(Debug, PartialEq)]
 pub enum Asked {
     Help,
     Version,
-    Rows(OsString, Options),
-    Lookup(OsString, Wanted, Options),
+    /// An index of the ids in the file, into the image.
+    Build {
+        file: OsString,
+        image: OsString,
+        gamma: f64,
+        quiet: bool,
+    },
+    Rows {
+        from: Source,
+        quiet: bool,
+    },
+    Lookup {
+        from: Source,
+        wanted: Wanted,
+        quiet: bool,
+    },
+}
+
+/// Where the index comes from.
+#[derive(Debug, PartialEq)]
+pub enum Source {
+    /// It is built of the ids in this file, with this gamma.
+    Built(OsString, f64),
+    /// It is read from this image. The ids, where they are asked for, are in this file.
+    Image(OsString, Option<OsString>),
 }
 
 /// The ids to look up: those given, or those of standard input.
@@ -22,19 +46,14 @@ pub enum Wanted {
     FromInput,
 }
 
-#[derive(Debug, PartialEq)]
-pub struct Options {
-    pub gamma: f64,
-    pub quiet: bool,
-}
-
 pub fn asked(words: &[OsString]) -> Result<Asked, Failure> {
     let (word, rest) = words
         .split_first()
         .ok_or_else(|| Failure::usage("no command is given"))?;
     match &*word.to_string_lossy() {
         "help" | "--help" | "-h" => Ok(Asked::Help),
-        "rows" | "lookup" if wants_help(rest) => Ok(Asked::Help),
+        "build" | "rows" | "lookup" if wants_help(rest) => Ok(Asked::Help),
+        "build" => build(rest),
         "rows" => rows(rest),
         "lookup" => lookup(rest),
         "--version" if rest.is_empty() => Ok(Asked::Version),
@@ -49,57 +68,133 @@ fn wants_help(rest: &[OsString]) -> bool {
     rest == ["help"] || options.any(|word| word == "--help" || word == "-h")
 }
 
+fn build(rest: &[OsString]) -> Result<Asked, Failure> {
+    let given = Given::of(rest)?;
+    if given.image.is_some() {
+        return Err(Failure::usage("build takes no --image: IMAGE stands after FILE"));
+    }
+    match given.words[..] {
+        [file, image] => Ok(Asked::Build {
+            file: file.clone(),
+            image: image_of(image)?,
+            gamma: given.gamma.unwrap_or(GAMMA),
+            quiet: given.quiet,
+        }),
+        _ => Err(Failure::usage("build needs a FILE and an IMAGE")),
+    }
+}
+
 fn rows(rest: &[OsString]) -> Result<Asked, Failure> {
-    let (words, options) = sorted(rest)?;
-    match words[..] {
-        [file] => Ok(Asked::Rows(file.clone(), options)),
-        _ => Err(Failure::usage("rows needs one FILE")),
+    let given = Given::of(rest)?;
+    let quiet = given.quiet;
+    match (&given.words[..], given.image) {
+        ([file], Some(image)) => {
+            let from = Source::Image(image, Some(file.to_os_string()));
+            Ok(Asked::Rows { from, quiet })
+        }
+        ([file], None) => {
+            let from = Source::Built(file.to_os_string(), given.gamma.unwrap_or(GAMMA));
+            Ok(Asked::Rows { from, quiet })
+        }
+        _ => Err(Failure::usage("rows needs one FILE, also with --image")),
     }
 }
 
 fn lookup(rest: &[OsString]) -> Result<Asked, Failure> {
-    let (words, options) = sorted(rest)?;
-    match words[..] {
-        [] | [_] => Err(Failure::usage("lookup needs a FILE and an ID")),
-        [file, input] if file == "-" && input == "-" => {
+    let given = Given::of(rest)?;
+    let quiet = given.quiet;
+    match (&given.words[..], given.image) {
+        ([], Some(_)) => Err(Failure::usage("lookup needs an ID")),
+        (ids, Some(image)) => {
+            let from = Source::Image(image, None);
+            let wanted = wanted(ids)?;
+            Ok(Asked::Lookup { from, wanted, quiet })
+        }
+        ([] | [_], None) => Err(Failure::usage("lookup needs a FILE and an ID")),
+        ([file, input], None) if *file == "-" && *input == "-" => {
             Err(Failure::usage("FILE and ID cannot both be standard input"))
         }
-        [file, input] if input == "-" => Ok(Asked::Lookup(file.clone(), Wanted::FromInput, options)),
-        [file, ref ids @ ..] => {
-            let ids = ids.iter().map(|word| id(word)).collect::<Result<_, _>>()?;
-            Ok(Asked::Lookup(file.clone(), Wanted::Given(ids), options))
+        ([file, ids @ ..], None) => {
+            let from = Source::Built(file.to_os_string(), given.gamma.unwrap_or(GAMMA));
+            let wanted = wanted(ids)?;
+            Ok(Asked::Lookup { from, wanted, quiet })
         }
     }
+}
+
+fn wanted(ids: &[&OsString]) -> Result<Wanted, Failure> {
+    if ids == ["-"] {
+        return Ok(Wanted::FromInput);
+    }
+    let ids = ids.iter().map(|word| id(word)).collect::<Result<_, _>>()?;
+    Ok(Wanted::Given(ids))
 }
 
 fn id(word: &OsStr) -> Result<u64, Failure> {
-    parse_id(&word.to_string_lossy()).map_err(|bad| Failure::usage(bad))
+    parse_id(&word.to_string_lossy()).map_err(Failure::usage)
 }
 
-/// The options, each given once at most, and the other words. After `--` there are only other words.
-fn sorted(rest: &[OsString]) -> Result<(Vec<&OsString>, Options), Failure> {
-    let mut words = Vec::new();
-    let (mut gamma, mut quiet) = (None, None);
-    let mut rest = rest.iter();
-    while let Some(word) = rest.next() {
-        let text = word.to_string_lossy();
-        let value = text.strip_prefix("--gamma=");
-        match (&*text, value) {
-            (_, Some(value)) => once(&mut gamma, "--gamma", gamma_of(value)?)?,
-            ("--gamma", _) => {
-                let value = rest.next().ok_or_else(|| Failure::usage("--gamma needs a number"))?;
-                once(&mut gamma, "--gamma", gamma_of(&value.to_string_lossy())?)?;
-            }
-            ("--quiet", _) => once(&mut quiet, "--quiet", true)?,
-            ("--", _) => words.extend(rest.by_ref()),
-            (option, _) if option.starts_with('-') && option != "-" => {
+/// The options, each given once at most, and the other words.
+#[derive(Default)]
+struct Given<'a> {
+    words: Vec<&'a OsString>,
+    gamma: Option<f64>,
+    image: Option<OsString>,
+    quiet: bool,
+}
+
+impl<'a> Given<'a> {
+    /// After `--` there are only other words.
+    fn of(rest: &'a [OsString]) -> Result<Given<'a>, Failure> {
+        let mut given = Given::default();
+        let mut quiet = None;
+        let mut rest = rest.iter();
+        while let Some(word) = rest.next() {
+            if let Some(value) = value_of("--gamma", "a number", word, &mut rest)? {
+                once(&mut given.gamma, "--gamma", gamma_of(&value.to_string_lossy())?)?;
+            } else if let Some(value) = value_of("--image", "an IMAGE", word, &mut rest)? {
+                once(&mut given.image, "--image", image_of(value)?)?;
+            } else if word == "--quiet" {
+                once(&mut quiet, "--quiet", ())?;
+            } else if word == "--" {
+                given.words.extend(rest.by_ref());
+            } else if word != "-" && word.as_bytes().starts_with(b"-") {
                 return Err(Failure::usage(format!("{} is not known", named(word))));
+            } else {
+                given.words.push(word);
             }
-            _ => words.push(word),
         }
+        given.quiet = quiet.is_some();
+        if given.gamma.is_some() && given.image.is_some() {
+            return Err(Failure::usage("--gamma is for building, and an image is built already"));
+        }
+        Ok(given)
     }
-    let (gamma, quiet) = (gamma.unwrap_or(GAMMA), quiet.is_some());
-    Ok((words, Options { gamma, quiet }))
+}
+
+/// The value of an option, if the word is that option: what stands after `=`, or the next word.
+fn value_of<'a>(
+    option: &str,
+    what: &str,
+    word: &'a OsStr,
+    rest: &mut std::slice::Iter<'a, OsString>,
+) -> Result<Option<&'a OsStr>, Failure> {
+    match word.as_bytes().strip_prefix(option.as_bytes()) {
+        Some([]) => match rest.next() {
+            Some(value) => Ok(Some(value)),
+            None => Err(Failure::usage(format!("{option} needs {what}"))),
+        },
+        Some([b'=', value @ ..]) => Ok(Some(OsStr::from_bytes(value))),
+        _ => Ok(None),
+    }
+}
+
+/// An image is a file that is replaced, or read from its beginning to its end; so it is no stream.
+fn image_of(word: &OsStr) -> Result<OsString, Failure> {
+    if word == "-" {
+        return Err(Failure::usage("IMAGE has to be a file, not -"));
+    }
+    Ok(word.to_os_string())
 }
 
 fn once<T>(place: &mut Option<T>, option: &str, value: T) -> Result<(), Failure> {
@@ -133,7 +228,8 @@ mod tests {
     }
 
     fn rows_of(file: &str, gamma: f64, quiet: bool) -> Result<Asked, String> {
-        Ok(Asked::Rows(file.into(), Options { gamma, quiet }))
+        let from = Source::Built(file.into(), gamma);
+        Ok(Asked::Rows { from, quiet })
     }
 
     #[test]
@@ -160,6 +256,8 @@ mod tests {
             "help rows",
             "rows help",
             "rows -h",
+            "build help",
+            "build f i -h",
             "lookup f --help",
         ] {
             assert_eq!(said(line), Ok(Asked::Help), "{line}");
@@ -169,18 +267,44 @@ mod tests {
 
     #[test]
     fn ids_to_look_up() {
-        let options = Options {
-            gamma: GAMMA,
-            quiet: false,
+        let lookup = |from, wanted, quiet| Ok(Asked::Lookup { from, wanted, quiet });
+        let given = || Wanted::Given(vec![5, 16]);
+        let built = || Source::Built("f".into(), GAMMA);
+        assert_eq!(said("lookup f 5 0x10"), lookup(built(), given(), false));
+        assert_eq!(said("lookup f - --quiet"), lookup(built(), Wanted::FromInput, true));
+        let image = || Source::Image("i".into(), None);
+        assert_eq!(said("lookup --image i 5 0x10"), lookup(image(), given(), false));
+        assert_eq!(said("lookup - --image=i"), lookup(image(), Wanted::FromInput, false));
+    }
+
+    #[test]
+    fn images() {
+        let build = |gamma, quiet| {
+            let (file, image) = ("f".into(), "i".into());
+            Ok(Asked::Build {
+                file,
+                image,
+                gamma,
+                quiet,
+            })
         };
-        let given = Wanted::Given(vec![5, 16]);
-        assert_eq!(said("lookup f 5 0x10"), Ok(Asked::Lookup("f".into(), given, options)));
-        let options = Options {
-            gamma: GAMMA,
-            quiet: true,
+        assert_eq!(said("build f i"), build(GAMMA, false));
+        assert_eq!(said("build --quiet f --gamma=2 i"), build(2.0, true));
+        let rows = |image: &str| {
+            let from = Source::Image(image.into(), Some("f".into()));
+            Ok(Asked::Rows { from, quiet: false })
         };
-        let asked = Asked::Lookup("f".into(), Wanted::FromInput, options);
-        assert_eq!(said("lookup f - --quiet"), Ok(asked));
+        assert_eq!(said("rows --image i f"), rows("i"));
+        assert_eq!(said("rows f --image=a=b"), rows("a=b"));
+        assert_eq!(said("rows f --image --gamma"), rows("--gamma"));
+    }
+
+    #[test]
+    fn a_name_need_not_be_text() {
+        let words = [&b"rows"[..], b"f", b"--image=\xFF"].map(|word| OsStr::from_bytes(word).to_os_string());
+        let image = OsStr::from_bytes(b"\xFF").to_os_string();
+        let from = Source::Image(image, Some("f".into()));
+        assert_eq!(asked(&words), Ok(Asked::Rows { from, quiet: false }));
     }
 
     #[test]
@@ -189,8 +313,8 @@ mod tests {
         let cases = [
             ("", "no command is given"),
             ("row f", "row is not a command"),
-            ("rows", "rows needs one FILE"),
-            ("rows f g", "rows needs one FILE"),
+            ("rows", "rows needs one FILE, also with --image"),
+            ("rows f g", "rows needs one FILE, also with --image"),
             ("lookup f", "lookup needs a FILE and an ID"),
             ("lookup - -", "FILE and ID cannot both be standard input"),
             ("lookup f 5 -", "\"-\" is not a number"),
@@ -200,6 +324,21 @@ mod tests {
             ("rows f --quiet --quiet", "--quiet is given twice"),
             ("rows f --quiet=1", "--quiet=1 is not known"),
             ("rows f -q", "-q is not known"),
+            ("rows f --imaged", "--imaged is not known"),
+            ("rows f --image", "--image needs an IMAGE"),
+            ("rows f --image i --image=i", "--image is given twice"),
+            ("rows f --image -", "IMAGE has to be a file, not -"),
+            (
+                "rows f --gamma 2 --image i",
+                "--gamma is for building, and an image is built already",
+            ),
+            ("rows --image i", "rows needs one FILE, also with --image"),
+            ("lookup --image i", "lookup needs an ID"),
+            ("lookup --image i f 5", "\"f\" is not a number"),
+            ("build f", "build needs a FILE and an IMAGE"),
+            ("build f i j", "build needs a FILE and an IMAGE"),
+            ("build f -", "IMAGE has to be a file, not -"),
+            ("build f --image i", "build takes no --image: IMAGE stands after FILE"),
             ("--version f", "--version takes no other words"),
             ("rows f --gamma=nan", "--gamma nan: refusal 1: gamma is not above 1.01"),
             ("rows f --gamma 17", "--gamma 17: refusal 2: gamma is above 16"),

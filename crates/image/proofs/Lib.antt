@@ -1,0 +1,5 @@
+pub mod ContentWords
+pub mod BlockSteps
+pub mod WriteCalls
+pub mod Copies
+pub mod ReadCalls

@@ -1,0 +1,4 @@
+-- What a user has to believe.
+pub mod Image
+-- What only serves inner contracts.
+pub mod Steps

@@ -1,0 +1,5 @@
+pub mod Contents
+pub mod Images
+pub mod ImageTable
+pub mod ImagePremises
+pub mod OneAnswer
