@@ -58,13 +58,14 @@ impl Index {
     /// the program is killed, the machine fails or this call does, the path leads to the old file or to the new one, whole.
     ///
     /// **How.** The image is written to a new file in the same folder, that file is synced and renamed, and the folder is synced. So the folder must be one
-    /// that may be read and in which files may be made. After an error before the renaming the new file is removed; after one of the folder's sync it stands
-    /// there, whole, but may not be on the disk yet. Only a program that was killed, or a machine that failed, leaves one: its name is
-    /// `.shawltide-`, the process number, `-`, a count, `.tmp`, and it may be removed when no program saves there.
+    /// that may be read and in which files may be made and renamed. After an error up to the renaming the new file is removed; after one of the folder's sync
+    /// it stands there, whole, but may not be on the disk yet. One is left by a program that was killed, a machine that failed, or a folder that was moved
+    /// meanwhile or lets nothing be removed: its name is `.shawltide-`, the process number, `-`, a count, `.tmp`, and it may be removed when no program saves
+    /// there.
     ///
-    /// **What stays.** The new file has the permissions of the old one, or those of any new file; it belongs to the user that saves. A symbolic link is
-    /// followed: it stays, and the file that it leads to is replaced. A folder, a device or a pipe is not replaced. Other names of the old file, by hard
-    /// links, keep the old image.
+    /// **What stays.** The new file may be read, written and executed by whom the old one may, or is as any new file; it belongs to the user that saves, and
+    /// has no access list. A symbolic link is followed: it stays, and the file that it leads to is replaced. A folder, a device or a pipe is not replaced.
+    /// Other names of the old file, by hard links, keep the old image.
     ///
     /// Several threads or programs may save to one path: the last to rename counts. Refused are the indexes that [`Index::to_image`] refuses.
     ///
@@ -90,7 +91,7 @@ impl Index {
 
     /// The index of a file that [`Index::save`] wrote. Refused is what [`Index::from_image`] refuses.
     ///
-    /// A file that is longer than any image is not read to its end; it is refused with 14 or 15, for what was read.
+    /// Of a file that is longer than any image, no more than a block is read past the longest: it is refused with 13, 14 or 15, for what was read.
     pub fn load(path: impl AsRef<Path>) -> Result<Index, ImageError> {
         let path = path.as_ref();
         let image = read(path).map_err(|error| ImageError::Read {
@@ -152,7 +153,7 @@ impl fmt::Display for ImageError {
             ),
             ImageError::Write { path, error } => write!(
                 f,
-                "{}: cannot be written: {error}; give a file in a folder that may be written and has room",
+                "{}: cannot be written: {error}; give a file in a folder that may be read and written and has room",
                 path.display()
             ),
             ImageError::Refused { path, refusal } => write!(f, "{}: {refusal}", path.display()),

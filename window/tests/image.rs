@@ -1,7 +1,9 @@
 //! Images, held to the plain writing of them.
 
+mod ids;
 mod plain;
 
+use ids::ids;
 use shawltide::bounds::{BLOCK_BYTES, MAX_BITS, MAX_IDS, MIN_BITS, MIN_IMAGE};
 use shawltide::{host, Index, Refusal, Room, GAMMA};
 
@@ -10,11 +12,6 @@ const FORM: usize = 0;
 const COUNT: usize = 1;
 const LEVELS: usize = 2;
 const SIZES: usize = 3;
-
-/// Different ids: multiples of an odd number.
-fn ids(count: u64) -> Vec<u64> {
-    (1..=count).map(|i| i.wrapping_mul(0x9E37_79B9_7F4A_7C15)).collect()
-}
 
 fn plain_image(index: &Index) -> Vec<u8> {
     let (head, words, samples) = index.parts();

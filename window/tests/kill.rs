@@ -1,6 +1,9 @@
 //! A program that is killed while it saves leaves the old image or the new one, whole. It is run without the harness of other tests: that has threads, and
 //! this forks.
 
+mod ids;
+
+use ids::ids;
 use shawltide::{ImageError, Index, Refusal, GAMMA};
 use std::error::Error;
 use std::os::raw::c_int;
@@ -17,10 +20,13 @@ extern "C" {
 const SIGKILL: c_int = 9;
 const KILLS: usize = 300;
 
+/// And so many at least, where savings are slow.
+const FEWEST: usize = 100;
+
 /// A program is killed within so many savings from its start.
 const SAVINGS: u32 = 4;
 
-/// After this time it is enough that each of what a kill may leave was seen: where the disk is slow, fewer programs are killed.
+/// After this time the fewest are enough, if each of what a kill may leave was seen.
 const ENOUGH: Duration = Duration::from_secs(30);
 
 /// A saving program ends by itself after this time, should the test itself have been ended.
@@ -46,28 +52,28 @@ impl Seen {
 
 fn main() -> Result<(), Box<dyn Error>> {
     let folder = Path::new(env!("CARGO_TARGET_TMPDIR")).join(format!("kill-{}", process::id()));
+    let _ = fs::remove_dir_all(&folder);
     fs::create_dir_all(&folder)?;
-    let seen = kill_all(&folder, &index(150_000)?, &index(150_001)?);
+    let seen = kill_all(&folder, &index(150_000)?, &index(150_001)?)?;
     fs::remove_dir_all(&folder)?;
-    let seen = seen?;
     assert!(seen.has_each(), "no kill during a saving: {seen:?}");
     println!("kill: {} saving programs killed: {seen:?}", seen.kills());
     Ok(())
 }
 
-/// An index of so many different ids: multiples of an odd number.
+/// An index of so many ids.
 fn index(count: u64) -> Result<Index, Refusal> {
-    let ids: Vec<u64> = (1..=count).map(|i| i.wrapping_mul(0x9E37_79B9_7F4A_7C15)).collect();
-    Index::build(&ids, GAMMA)
+    Index::build(&ids(count), GAMMA)
 }
 
 fn kill_all(folder: &Path, old: &Index, new: &Index) -> Result<Seen, Box<dyn Error>> {
     let path = folder.join("image");
-    let longest = SAVINGS * time_of_saving(&path, old)?;
+    let longest = (SAVINGS * time_of_saving(&path, old)?).min(LIFE / 2);
     let start = Instant::now();
     let mut seen = Seen::default();
     let mut drawn = u64::from(process::id());
-    while seen.kills() < KILLS && !(seen.has_each() && start.elapsed() > ENOUGH) {
+    let enough = |seen: &Seen| seen.kills() >= FEWEST && seen.has_each() && start.elapsed() > ENOUGH;
+    while seen.kills() < KILLS && !enough(&seen) {
         drawn = drawn.wrapping_mul(0x5851_F42D_4C95_7F2D).wrapping_add(1);
         let after = longest.mul_f64((drawn >> 32) as f64 / 2_f64.powi(32));
         kill_one(&path, [new, old], after)?;

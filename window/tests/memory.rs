@@ -1,5 +1,8 @@
 //! What an index and its image take, and what a build and a reading take meanwhile, as README says.
 
+mod ids;
+
+use ids::ids;
 use shawltide::{Index, Refusal, Room, GAMMA};
 use std::alloc::{GlobalAlloc, Layout, System};
 use std::cell::Cell;
@@ -42,7 +45,7 @@ fn measured<T>(act: impl FnOnce() -> Result<T, Refusal>) -> Result<(T, usize, us
 
 /// The bytes of an index of so many ids, and the most that its build took beside the ids.
 fn build_of(count: u64, gamma: f64) -> Result<(usize, usize), Refusal> {
-    let ids: Vec<u64> = (1..=count).map(|i| i.wrapping_mul(0x9E37_79B9_7F4A_7C15)).collect();
+    let ids = ids(count);
     let (index, kept, most) = measured(|| Index::build(&ids, gamma))?;
     assert_eq!(8 * kept, index.bits());
     Ok((kept, most))

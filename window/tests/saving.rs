@@ -1,7 +1,9 @@
 //! Indexes in files: what `save` leaves and `load` reads, whatever stands at the path. `kill.rs` has what a killed program leaves.
 
+mod ids;
 mod plain;
 
+use ids::ids;
 use shawltide::{ImageError, Index, Refusal, Room, GAMMA};
 use std::error::Error;
 use std::ffi::CString;
@@ -26,6 +28,8 @@ struct Folder(PathBuf);
 impl Folder {
     fn new(test: &str) -> io::Result<Folder> {
         let path = Path::new(env!("CARGO_TARGET_TMPDIR")).join(format!("{test}-{}", std::process::id()));
+        // A killed test of the same number may have left it.
+        let _ = fs::remove_dir_all(&path);
         fs::create_dir_all(&path)?;
         Ok(Folder(path))
     }
@@ -52,10 +56,9 @@ impl Drop for Folder {
     }
 }
 
-/// An index of so many different ids: multiples of an odd number.
+/// An index of so many ids.
 fn index(count: u64) -> Result<Index, Refusal> {
-    let ids: Vec<u64> = (1..=count).map(|i| i.wrapping_mul(0x9E37_79B9_7F4A_7C15)).collect();
-    Index::build(&ids, GAMMA)
+    Index::build(&ids(count), GAMMA)
 }
 
 /// The refusal behind an error, if one is.

@@ -1,14 +1,12 @@
 //! What the crate says of threads.
 
+mod ids;
+
+use ids::ids;
 use shawltide::{BitSet, ImageError, Index, Iter, Place, Refusal, Room, GAMMA};
 use std::thread;
 
 const THREADS: u64 = 4;
-
-/// Different ids: multiples of an odd number.
-fn ids(count: u64) -> Vec<u64> {
-    (1..=count).map(|i| i.wrapping_mul(0x9E37_79B9_7F4A_7C15)).collect()
-}
 
 #[test]
 fn every_type_may_go_to_another_thread_and_be_shared() {

@@ -8,7 +8,7 @@ use crate::Failure;
 use shawltide::{ImageError, Index};
 use std::ffi::OsStr;
 use std::fs::{self, File};
-use std::io::{self, Read};
+use std::io::{self, ErrorKind, Read};
 use std::os::unix::fs::MetadataExt;
 use std::path::Path;
 use std::time::{Duration, Instant};
@@ -73,33 +73,27 @@ impl<'a> Input<'a> {
 
 /// The index and what there is to say about it.
 pub fn report(from: &Source, quiet: bool) -> Result<Report, Failure> {
-    match from {
+    let (file, index, rows, time) = match from {
         Source::Built(file, gamma) => {
             let input = Input::open(file)?;
             let Built { ids, index, time } = input.build(*gamma, quiet)?;
-            let rows = Some(input.rows(&index, &ids)?);
-            let file = file.clone();
-            Ok(Report {
-                file,
-                index,
-                rows,
-                time,
-            })
+            let rows = input.rows(&index, &ids)?;
+            (file, index, Some(rows), time)
         }
         Source::Image(image, list) => {
             let start = Instant::now();
             let index = Index::load(image).map_err(|error| failure(image, error))?;
             let time = start.elapsed();
             let rows = list.as_deref().map(|list| listed(&index, list, quiet)).transpose()?;
-            let file = image.clone();
-            Ok(Report {
-                file,
-                index,
-                rows,
-                time,
-            })
+            (image, index, rows, time)
         }
-    }
+    };
+    Ok(Report {
+        file: file.clone(),
+        index,
+        rows,
+        time,
+    })
 }
 
 /// The row list of an index for the ids in a file.
@@ -130,10 +124,11 @@ fn is_free(path: &Path) -> io::Result<bool> {
     match fs::metadata(path) {
         Ok(old) if old.is_file() && old.len() > 0 => begins_as_an_image(path),
         Ok(_) => Ok(true),
-        Err(_) => {
+        Err(error) if error.kind() == ErrorKind::NotFound => {
             let folder = path.parent().filter(|folder| *folder != Path::new(""));
             fs::metadata(folder.unwrap_or(Path::new("."))).map(|_| true)
         }
+        Err(error) => Err(error),
     }
 }
 
@@ -148,7 +143,10 @@ fn begins_as_an_image(path: &Path) -> io::Result<bool> {
 /// Why an image could not be read or written, by the name that was given for it.
 pub fn failure(image: &OsStr, error: ImageError) -> Failure {
     match error {
-        ImageError::Read { error, .. } => Failure::of(image, format_args!("{error}; give an image that may be read")),
+        ImageError::Read { error, .. } => Failure::of(
+            image,
+            format_args!("{error}; give an image that `shawltide build` wrote and that may be read"),
+        ),
         ImageError::Write { error, .. } => unwritten(image, error),
         ImageError::Refused { refusal, .. } => Failure::of(image, refusal),
     }
@@ -157,6 +155,6 @@ pub fn failure(image: &OsStr, error: ImageError) -> Failure {
 fn unwritten(image: &OsStr, error: io::Error) -> Failure {
     Failure::of(
         image,
-        format_args!("{error}; give a file in a folder that may be read and written"),
+        format_args!("{error}; give a file in a folder that may be read and written and has room"),
     )
 }
