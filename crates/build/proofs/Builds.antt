@@ -130,7 +130,7 @@ module _ (gamma : Float) (ids : List ℕ) (s : Stores) where
     -- what the run leaves, with the rest store cleared, is what a build leaves
     build-ended : buildChecks gamma (length ids) (length (s .collide)) (length (s .rest)) ≡ Done
         → (end : Run) {sizes : List ℕ} {t : Stores} → length (t .words) ≡ length (s .words) → length (t .samples) ≡ length (s .samples)
-        → Ran gamma (take (length ids) (fronted ids (s .rest))) (prepared ids s) end sizes t
+        → Ran (ruleOf gamma) (take (length ids) (fronted ids (s .rest))) (prepared ids s) end sizes t
         → afterRun end (length ids) sizes (stores (t .words) (t .samples) (t .collide) (zeros (length (s .rest)))) ≡ buildCall gamma ids s
     unfolding buildCall
     build-ended done end {sizes} {t} lw ls r =
@@ -160,9 +160,9 @@ module _ (gamma : Float) (ids : List ℕ) (s : Stores) where
 
     pub build-ends : buildChecks gamma (length ids) (length (s .collide)) (length (s .rest)) ≡ Done → {s₁ : Stores} → s₁ ≡ prepared ids s
         → (end : Run) {sizes : List ℕ} {t : Stores} → length (t .words) ≡ length (s .words) → length (t .samples) ≡ length (s .samples)
-        → Ran gamma (take (length ids) (s₁ .rest)) s₁ end sizes t → length (t .rest) ≡ length (s .rest)
+        → Ran (ruleOf gamma) (take (length ids) (s₁ .rest)) s₁ end sizes t → length (t .rest) ≡ length (s .rest)
         → {rest′ : List ℕ} → rest′ ≡ replicate (length (t .rest)) 0 ++ drop (length (t .rest)) (t .rest)
         → afterRun end (length ids) sizes (stores (t .words) (t .samples) (t .collide) rest′) ≡ buildCall gamma ids s
     build-ends done e end {sizes} {t} lw ls r lr f =
         rw (f ∙ filled-whole (t .rest) 0, lr)
-        (build-ended done end lw ls (subst (λ (s₁ : Stores). Ran gamma (take (length ids) (s₁ .rest)) s₁ end sizes t) e r))
+        (build-ended done end lw ls (subst (λ (s₁ : Stores). Ran (ruleOf gamma) (take (length ids) (s₁ .rest)) s₁ end sizes t) e r))

@@ -3,7 +3,7 @@ use lists::line::number;
 use lists::real::real;
 use trial::measure::measure;
 
-pub enum Kind {
+pub enum Case {
     // state, output: of the public splitmix64.c
     Splitmix,
     // level, id, hash
@@ -36,28 +36,28 @@ pub enum Kind {
 }
 
 // Whether a line of so many numbers is a case that holds. `store` is a copy of the line, which a call may write to.
-pub fn holds(kind: Kind, count: usize, line: &[u64], store: &mut [u64]) -> bool {
-    match kind {
-        Kind::Splitmix => is_mixed(count, line),
-        Kind::Mixer => is_hash(count, line),
-        Kind::Fold => is_fold(count, line),
-        Kind::Position => is_position(count, line),
-        Kind::Size => is_size(count, line),
-        Kind::New => set_cases::new(count, line, store),
-        Kind::Ones => set_cases::ones(count, line, store),
-        Kind::IsEmpty => set_cases::is_empty(count, line),
-        Kind::Len => set_cases::len(count, line),
-        Kind::Contains => set_cases::contains(count, line),
-        Kind::Insert => set_cases::insert(count, line, store),
-        Kind::Remove => set_cases::remove(count, line, store),
-        Kind::InsertAll => set_cases::insert_all(count, line, store),
-        Kind::EqLeft => set_cases::eq_left(count, line),
-        Kind::Members => set_cases::members(count, line, store),
-        Kind::Level => level_cases::place(count, line, store),
-        Kind::Samples => level_cases::samples(count, line, store),
-        Kind::Rank => level_cases::rank(count, line),
-        Kind::Lookup => lookup_cases::lookup(count, line),
-        Kind::Build => build_cases::build(count, line),
+pub fn holds(case: Case, count: usize, line: &[u64], store: &mut [u64]) -> bool {
+    match case {
+        Case::Splitmix => is_mixed(count, line),
+        Case::Mixer => is_hash(count, line),
+        Case::Fold => is_fold(count, line),
+        Case::Position => is_position(count, line),
+        Case::Size => is_size(count, line),
+        Case::New => set_cases::new(count, line, store),
+        Case::Ones => set_cases::ones(count, line, store),
+        Case::IsEmpty => set_cases::is_empty(count, line),
+        Case::Len => set_cases::len(count, line),
+        Case::Contains => set_cases::contains(count, line),
+        Case::Insert => set_cases::insert(count, line, store),
+        Case::Remove => set_cases::remove(count, line, store),
+        Case::InsertAll => set_cases::insert_all(count, line, store),
+        Case::EqLeft => set_cases::eq_left(count, line),
+        Case::Members => set_cases::members(count, line, store),
+        Case::Level => level_cases::place(count, line, store),
+        Case::Samples => level_cases::samples(count, line, store),
+        Case::Rank => level_cases::rank(count, line),
+        Case::Lookup => lookup_cases::lookup(count, line),
+        Case::Build => build_cases::build(count, line),
     }
 }
 

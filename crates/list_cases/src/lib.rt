@@ -1,5 +1,5 @@
 // The cases of a list, one after the other, up to the check that ends it.
-use cases::Kind;
+use cases::Case;
 use cases::holds;
 use libc::STDOUT_FILENO;
 use lists::file::Cursor;
@@ -32,7 +32,7 @@ const MOST_CASES: u64 = 1_000_000;
 
 // How far the list that starts here is equal.
 pub fn compare(
-    kind: Kind,
+    case: Case,
     start: Cursor,
     buffer: &mut [u8; 4096],
     numbers: &mut [u64; MOST],
@@ -41,7 +41,7 @@ pub fn compare(
     let mut place = start;
     let mut cases: u64 = 0;
     while cases < MOST_CASES {
-        let step = next_case(kind, place, buffer, numbers, store);
+        let step = next_case(case, place, buffer, numbers, store);
         match step {
             Step::Equal(next) => {
                 place = next;
@@ -57,7 +57,7 @@ pub fn compare(
 
 // The next line: a case, or the one number that ends the list, which is the check of all bytes before it.
 fn next_case(
-    kind: Kind,
+    case: Case,
     place: Cursor,
     buffer: &mut [u8; 4096],
     numbers: &mut [u64; MOST],
@@ -74,7 +74,7 @@ fn next_case(
             Step::Broken
         };
     }
-    if is_equal(kind, count, numbers, store) {
+    if is_equal(case, count, numbers, store) {
         Step::Equal(next)
     } else {
         Step::Differs
@@ -92,12 +92,12 @@ fn end(place: Cursor, buffer: &mut [u8; 4096]) -> Step {
 }
 
 // Whether a case holds. The calls write to a copy of its line, and what they are lent goes on past the line: they may not touch it.
-fn is_equal(kind: Kind, count: usize, numbers: &[u64; MOST], store: &mut [u64]) -> bool {
+fn is_equal(case: Case, count: usize, numbers: &[u64; MOST], store: &mut [u64]) -> bool {
     let n = std::num::wrapping_add_usize(count, PAST);
     let line = first(numbers, n);
     let own = first_mut(store, n);
     copy(line, own);
-    holds(kind, count, line, own)
+    holds(case, count, line, own)
 }
 
 // How many numbers are lent past a line.

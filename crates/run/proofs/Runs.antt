@@ -73,7 +73,7 @@ module _ (gamma : Float) (ids : List ℕ) (s₀ : Stores) where
     collide-long : length (s .collide) ≡ length (s₀ .collide)
     collide-long = ap length (t .collide-is) ∙ length-replicate (length (s₀ .collide)) 0
 
-    size-is : nextSize gamma at ≡ span rule ids i
+    size-is : nextSize rule at ≡ span rule ids i
     size-is = ap (sizeFor gamma) (t .remaining-is)
 
     ready : Allowed gamma → length ids ≤ maxIds → wordsFor (sizeFor gamma (length ids)) ≤ length (s₀ .collide) → i < levelLimit → TurnRoom gamma at s
@@ -96,13 +96,13 @@ module _ (gamma : Float) (ids : List ℕ) (s₀ : Stores) where
 
     -- ---- the level is the rule's
 
-    same-room : hasRoom gamma at s ≡ fits rule room ids (suc i)
+    same-room : hasRoom rule at s ≡ fits rule room ids (suc i)
     same-room = rw (words-long, samples-long, t .words-at, t .samples-at, t .remaining-is, length-words rule ids i, length-samples-to rule ids i)
 
-    own-words : ownWords gamma at s ≡ wordsAt rule ids i
+    own-words : ownWords rule at s ≡ wordsAt rule ids i
     own-words = rw (t .come, t .remaining-is, t .level-is)
 
-    next-left : rest (spot gamma at s) (comers gamma at s) ≡ remaining rule ids (suc i)
+    next-left : rest (spot rule at s) (comers rule at s) ≡ remaining rule ids (suc i)
     unfolding remaining
     next-left = rw (t .come, t .remaining-is, t .level-is)
 
@@ -116,7 +116,7 @@ module _ (gamma : Float) (ids : List ℕ) (s₀ : Stores) where
 
     -- ---- after it
 
-    sizes-after : i < levelLimit → set sizes i (nextSize gamma at) ≡ filled (indexSizes rule ids (suc i)) headSizes
+    sizes-after : i < levelLimit → set sizes i (nextSize rule at) ≡ filled (indexSizes rule ids (suc i)) headSizes
     sizes-after h =
         let xs : List ℕ = indexSizes rule ids i in
         let l : length xs ≡ i = length-sizes rule ids i in
@@ -126,7 +126,7 @@ module _ (gamma : Float) (ids : List ℕ) (s₀ : Stores) where
         ∙ ap (λ (us : List ℕ). filled us headSizes) (sym (sizes-next rule ids i))
 
     module _ (f : fits rule room ids (suc i) ≡ true) where
-      words-after : pasted (at .words) (ownWords gamma at s) (s .words) ≡ filled (indexWords rule ids (suc i)) (length (s₀ .words))
+      words-after : pasted (at .words) (ownWords rule at s) (s .words) ≡ filled (indexWords rule ids (suc i)) (length (s₀ .words))
       words-after =
           let fit : length (indexWords rule ids i) + length (wordsAt rule ids i) ≤ length (s₀ .words)
           = omega (arith, length-words rule ids i, length-words-at rule ids i, room-words rule room ids (suc i) f) in
@@ -134,7 +134,7 @@ module _ (gamma : Float) (ids : List ℕ) (s₀ : Stores) where
           (filled-pasted (indexWords rule ids i) (length (s₀ .words)) (wordsAt rule ids i) fit
           ∙ ap (λ (us : List ℕ). filled us (length (s₀ .words))) (sym (words-next rule ids i)))
 
-      samples-after : pasted (at .samples) (samplesOf (at .set) (ownWords gamma at s)) (s .samples) ≡ filled (indexSamples rule ids (suc i)) (length (s₀ .samples))
+      samples-after : pasted (at .samples) (samplesOf (at .set) (ownWords rule at s)) (s .samples) ≡ filled (indexSamples rule ids (suc i)) (length (s₀ .samples))
       samples-after =
           let fit : length (indexSamples rule ids i) + length (samplesAt rule ids i) ≤ length (s₀ .samples)
           = omega (arith, length-samples-to rule ids i, length-samples-at rule ids i, room-samples rule room ids (suc i) f) in
@@ -142,20 +142,20 @@ module _ (gamma : Float) (ids : List ℕ) (s₀ : Stores) where
           (filled-pasted (indexSamples rule ids i) (length (s₀ .samples)) (samplesAt rule ids i) fit
           ∙ ap (λ (us : List ℕ). filled us (length (s₀ .samples))) (sym (samples-next rule ids i)))
 
-    rest-after : length (fronted (rest (spot gamma at s) (comers gamma at s)) (s .rest)) ≡ length (s₀ .rest)
+    rest-after : length (fronted (rest (spot rule at s) (comers rule at s)) (s .rest)) ≡ length (s₀ .rest)
     rest-after =
         simp (length-append, length-drop)
-        (omega (arith, rest-length (spot gamma at s) (comers gamma at s), length-take (at .remaining) (s .rest), t .rest-length))
+        (omega (arith, rest-length (spot rule at s) (comers rule at s), length-take (at .remaining) (s .rest), t .rest-length))
 
     pub state-next : fits rule room ids (suc i) ≡ true → i < levelLimit
-        → State (suc i) (nextProgress gamma at s) (set sizes i (nextSize gamma at)) (nextStores gamma at s)
+        → State (suc i) (nextProgress rule at s) (set sizes i (nextSize rule at)) (nextStores rule at s)
     state-next f h = record {
       level-is = omega (arith, t .level-is);
       remaining-is = ap length next-left;
       words-at = omega (arith, t .words-at, length-words rule ids i, length-words rule ids (suc i), ap wordsFor size-is);
       samples-at = omega (arith, t .samples-at, length-samples-to rule ids i, length-samples-to rule ids (suc i), ap samplesOfSize size-is);
       set-is = ap₂ (λ (n : ℕ) (ws : List ℕ). n + setBits ws) (t .set-is) own-words ∙ set-next;
-      come = take-at (rest (spot gamma at s) (comers gamma at s)) (drop (length (rest (spot gamma at s) (comers gamma at s))) (s .rest)) (length (rest (spot gamma at s) (comers gamma at s))) refl ∙ next-left;
+      come = take-at (rest (spot rule at s) (comers rule at s)) (drop (length (rest (spot rule at s) (comers rule at s))) (s .rest)) (length (rest (spot rule at s) (comers rule at s))) refl ∙ next-left;
       sizes-are = sizes-after h;
       words-are = words-after f;
       samples-are = samples-after f;
@@ -166,9 +166,9 @@ module _ (gamma : Float) (ids : List ℕ) (s₀ : Stores) where
     -- ---- how a turn ends the run, or goes on
 
     module _ (h : i < levelLimit) {after : Stores} where
-      pub ran-full : turned T.NoRoom after ≡ levelTurn gamma at s → Ran gamma ids s₀ (R.NoRoom i) sizes after
+      pub ran-full : turned T.NoRoom after ≡ levelTurn rule at s → Ran rule ids s₀ (R.NoRoom i) sizes after
       ran-full e =
-          let u = turn-full gamma at s e in
+          let u = turn-full rule at s e in
           record {
             outcome = sym (ends-only rule room ids levelLimit (out-of-room i h r (sym same-room ∙ u .0) refl));
             collide-is = ap (λ (x : Stores). x .collide) (u .1) ∙ t .collide-is;
@@ -180,19 +180,19 @@ module _ (gamma : Float) (ids : List ℕ) (s₀ : Stores) where
           not-built : (j n : ℕ) → noRoom j ≡ built n → ⊥
           not-built j n q = let z : _≡_ {A = ℕ} 0 1 = cc in omega arith
 
-      module _ {size : ℕ} {next : Progress} (e : turned (T.Placed size next) after ≡ levelTurn gamma at s) where
+      module _ {size : ℕ} {next : Progress} (e : turned (T.Placed size next) after ≡ levelTurn rule at s) where
         placed-room : fits rule room ids (suc i) ≡ true
-        placed-room = sym same-room ∙ turn-placed gamma at s e .has-room
+        placed-room = sym same-room ∙ turn-placed rule at s e .has-room
 
         placed-state : State (suc i) next (set sizes i size) after
         placed-state =
-            let u = turn-placed gamma at s e in
+            let u = turn-placed rule at s e in
             rw (u .next-is, u .size-is, u .stores-are) (state-next placed-room h)
 
         pub goes-on : (next .remaining ≡ 0 → ⊥) → State (suc i) next (set sizes i size) after × Reaches rule room ids (suc i)
         goes-on n = (placed-state, reaches-next rule room ids i r placed-room (omega (arith, placed-state .remaining-is)))
 
-        pub ran-built : next .remaining ≡ 0 → Ran gamma ids s₀ (R.Built (next .level)) (set sizes i size) after
+        pub ran-built : next .remaining ≡ 0 → Ran rule ids s₀ (R.Built (next .level)) (set sizes i size) after
         ran-built z =
             let p = placed-state in
             let none : remaining rule ids (suc i) ≡ [] = empty (remaining rule ids (suc i)) (omega (arith, p .remaining-is)) in
@@ -207,7 +207,7 @@ module _ (gamma : Float) (ids : List ℕ) (s₀ : Stores) where
   -- ---- the limit
 
   pub ran-left : (at : Progress) (sizes : List ℕ) (s : Stores) → State levelLimit at sizes s → Reaches rule room ids levelLimit
-      → Ran gamma ids s₀ (R.IdsLeft (at .remaining)) sizes s
+      → Ran rule ids s₀ (R.IdsLeft (at .remaining)) sizes s
   ran-left at sizes s t r =
       rw (t .remaining-is) (record {
         outcome = sym (ends-only rule room ids levelLimit (at-limit r refl));

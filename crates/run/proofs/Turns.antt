@@ -18,9 +18,8 @@ use Rattle.level.specs.Level.{ClearWords, LevelRoom}
 use Rattle.ranks.specs.Ranks.{setBits, samplesOf}
 use Rattle.ranks.specs.Sampling.{withSamples}
 use Rattle.ranks.proofs.Samples.{length-samples}
-use Rattle.mixer.specs.Position.{position}
-use Rattle.rule.specs.Rule.{single}
-use Rattle.sizes.specs.Sizes.{samplesFor}
+use Rattle.rule.specs.Rule.{Rule, single}
+use Rattle.sizes.specs.Sizes.{sizeFor, samplesFor}
 use Rattle.sizes.proofs.Sizes.{size-least, size-most}
 use Rattle.head.specs.Layout.{samplesOfSize}
 use Rattle.run.specs.Stores.{Stores, stores}
@@ -93,117 +92,122 @@ part-pasted k xs store n h l =
 length-pasted : (k : ℕ) (xs store : List ℕ) → k + length xs ≤ length store → length (pasted k xs store) ≡ length store
 length-pasted k xs store h = simp (length-append, length-take, length-drop) (omega arith)
 
-pub size-small : (gamma : Float) (at : Progress) (s : Stores) → TurnRoom gamma at s → {size : ℕ} → size ≡ nextSize gamma at → size ≤ maxBits
+pub size-small : (gamma : Float) (at : Progress) (s : Stores) → TurnRoom gamma at s → {size : ℕ} → size ≡ sizeFor gamma (at .remaining) → size ≤ maxBits
 size-small gamma at s r e = rw e (size-most gamma (at .remaining) (r .allowed) (r .few-ids))
 
 module _ (gamma : Float) (at : Progress) (s : Stores) (r : TurnRoom gamma at s) {size taken ranked : ℕ}
-    (size-is : size ≡ nextSize gamma at) (taken-is : taken ≡ wordsFor size) (ranked-is : ranked ≡ samplesFor taken) where
-  no-room : hasRoom gamma at s ≡ false → turned T.NoRoom s ≡ levelTurn gamma at s
-  unfolding levelTurn
-  no-room f = rw f
+    (size-is : size ≡ sizeFor gamma (at .remaining)) (taken-is : taken ≡ wordsFor size) (ranked-is : ranked ≡ samplesFor taken) where
+  pub placeable : taken ≤ length (s .words) - at .words → Placeable size (at .remaining) (at .words) (s .rest) (s .words) (s .collide)
+  placeable word-room = record {
+    positive = rw size-is (omega (arith, size-least gamma (at .remaining)));
+    bound = size-small gamma at s r size-is;
+    in-store = r .in-rest;
+    in-words = omega (arith, r .in-words);
+    in-collide = rw size-is (r .in-collide);
+    clear-words = r .clear-words;
+    clear-collide = r .clear-collide;
+  }
 
-  pub words-short : length (s .words) - at .words < taken → turned T.NoRoom s ≡ levelTurn gamma at s
-  words-short h =
-      no-room (rw (lt-leb (at .words + wordsFor (nextSize gamma at)) (length (s .words)) (rw (← size-is, ← taken-is) (omega arith))))
+  -- by any rule of positions
+  module _ (pos : (level size id : ℕ) → ℕ) where
+    abbrev rule : Rule
+    rule = record { pos = pos; size = sizeFor gamma }
 
-  pub samples-short : length (s .samples) - at .samples < ranked → turned T.NoRoom s ≡ levelTurn gamma at s
-  samples-short h =
-      let q : length (s .samples) < at .samples + samplesOfSize (nextSize gamma at) = rw (← size-is, ← taken-is, ← ranked-is) (omega arith) in
-      no-room (rw (lt-leb (at .samples + samplesOfSize (nextSize gamma at)) (length (s .samples)) q) (and-false (leb (at .words + wordsFor (nextSize gamma at)) (length (s .words)))))
+    no-room : hasRoom rule at s ≡ false → turned T.NoRoom s ≡ levelTurn rule at s
+    unfolding levelTurn
+    no-room f = rw f
 
-  module _ (word-room : taken ≤ length (s .words) - at .words) (sample-room : ranked ≤ length (s .samples) - at .samples) where
-    pub placeable : Placeable size (at .remaining) (at .words) (s .rest) (s .words) (s .collide)
-    placeable = record {
-      positive = rw size-is (omega (arith, size-least gamma (at .remaining)));
-      bound = size-small gamma at s r size-is;
-      in-store = r .in-rest;
-      in-words = omega (arith, r .in-words);
-      in-collide = rw size-is (r .in-collide);
-      clear-words = r .clear-words;
-      clear-collide = r .clear-collide;
-    }
+    pub words-short : length (s .words) - at .words < taken → turned T.NoRoom s ≡ levelTurn rule at s
+    words-short h =
+        no-room (rw (lt-leb (at .words + wordsFor (sizeFor gamma (at .remaining))) (length (s .words)) (rw (← size-is, ← taken-is) (omega arith))))
 
-    module _ {told : ℕ} {store′ words′ collide′ : List ℕ}
-        (p : PlacedAt (position (at .level) size) size (take (at .remaining) (s .rest)) (at .words) (s .rest) (s .words) (s .collide) told store′ words′ collide′) where
-      abbrev own : List ℕ
-      own = packed (wordsFor size) (single (position (at .level) size) (take (at .remaining) (s .rest)))
+    pub samples-short : length (s .samples) - at .samples < ranked → turned T.NoRoom s ≡ levelTurn rule at s
+    samples-short h =
+        let q : length (s .samples) < at .samples + samplesOfSize (sizeFor gamma (at .remaining)) = rw (← size-is, ← taken-is, ← ranked-is) (omega arith) in
+        no-room (rw (lt-leb (at .samples + samplesOfSize (sizeFor gamma (at .remaining))) (length (s .samples)) q) (and-false (leb (at .words + wordsFor (sizeFor gamma (at .remaining))) (length (s .words)))))
 
-      own-length : length own ≡ taken
-      own-length = length-packed (wordsFor size) (single (position (at .level) size) (take (at .remaining) (s .rest))) ∙ sym taken-is
+    module _ (word-room : taken ≤ length (s .words) - at .words) (sample-room : ranked ≤ length (s .samples) - at .samples) where
+      module _ {told : ℕ} {store′ words′ collide′ : List ℕ}
+          (p : PlacedAt (pos (at .level) size) size (take (at .remaining) (s .rest)) (at .words) (s .rest) (s .words) (s .collide) told store′ words′ collide′) where
+        abbrev own : List ℕ
+        own = packed (wordsFor size) (single (pos (at .level) size) (take (at .remaining) (s .rest)))
 
-      fits : at .words + length own ≤ length (s .words)
-      fits = rw own-length (omega (arith, r .in-words))
+        own-length : length own ≡ taken
+        own-length = length-packed (wordsFor size) (single (pos (at .level) size) (take (at .remaining) (s .rest))) ∙ sym taken-is
 
-      pub sampleable : Sampleable (at .words) taken (at .set) (at .samples) words′ (s .samples)
-      sampleable = record {
-        in-words = rw (p .words-are, length-pasted (at .words) own (s .words) fits) (omega arith);
-        few-words = omega (arith, size-small gamma at s r size-is);
-        few-set = r .few-set;
-        in-samples = omega (arith, r .in-samples);
-      }
+        fits : at .words + length own ≤ length (s .words)
+        fits = rw own-length (omega (arith, r .in-words))
 
-      pub placed : {set : ℕ} {samples′ : List ℕ} → SampledAt (at .set) (at .samples) (take taken (drop (at .words) words′)) (s .samples) set samples′
-          → turned (T.Placed size (record { level = at .level + 1; remaining = told; words = at .words + taken; samples = at .samples + ranked; set = set }))
-          (stores words′ samples′ collide′ store′)
-          ≡ levelTurn gamma at s
-      unfolding levelTurn
-      placed {set} {samples′} q =
-          let w : take taken (drop (at .words) words′) ≡ own
-          = ap (λ (ws : List ℕ). take taken (drop (at .words) ws)) (p .words-are) ∙ part-pasted (at .words) own (s .words) taken (r .in-words) own-length in
-          let samples-are : samples′ ≡ pasted (at .samples) (samplesOf (at .set) own) (s .samples)
-          = q .samples-are ∙ ap (λ (ws : List ℕ). pasted (at .samples) (samplesOf (at .set) ws) (s .samples)) w in
-          let set-is : set ≡ at .set + setBits own = q .set-is ∙ ap (λ (ws : List ℕ). at .set + setBits ws) w in
-          let h : at .words + wordsFor (nextSize gamma at) ≤ length (s .words) = rw (← size-is, ← taken-is) (omega (arith, r .in-words)) in
-          let k : at .samples + samplesOfSize (nextSize gamma at) ≤ length (s .samples)
-          = rw (← size-is, ← taken-is, ← ranked-is) (omega (arith, r .in-samples)) in
-          rw (
-            samples-are,
-            set-is,
-            p .words-are,
-            p .collide-is,
-            p .store-is,
-            p .count-is,
-            ranked-is,
-            taken-is,
-            size-is,
-            le-leb (at .words + wordsFor (nextSize gamma at)) (length (s .words)) h,
-            le-leb (at .samples + samplesOfSize (nextSize gamma at)) (length (s .samples)) k,
-          )
+        pub sampleable : Sampleable (at .words) taken (at .set) (at .samples) words′ (s .samples)
+        sampleable = record {
+          in-words = rw (p .words-are, length-pasted (at .words) own (s .words) fits) (omega arith);
+          few-words = omega (arith, size-small gamma at s r size-is);
+          few-set = r .few-set;
+          in-samples = omega (arith, r .in-samples);
+        }
+
+        pub placed : {set : ℕ} {samples′ : List ℕ} → SampledAt (at .set) (at .samples) (take taken (drop (at .words) words′)) (s .samples) set samples′
+            → turned (T.Placed size (record { level = at .level + 1; remaining = told; words = at .words + taken; samples = at .samples + ranked; set = set }))
+            (stores words′ samples′ collide′ store′)
+            ≡ levelTurn rule at s
+        unfolding levelTurn
+        placed {set} {samples′} q =
+            let w : take taken (drop (at .words) words′) ≡ own
+            = ap (λ (ws : List ℕ). take taken (drop (at .words) ws)) (p .words-are) ∙ part-pasted (at .words) own (s .words) taken (r .in-words) own-length in
+            let samples-are : samples′ ≡ pasted (at .samples) (samplesOf (at .set) own) (s .samples)
+            = q .samples-are ∙ ap (λ (ws : List ℕ). pasted (at .samples) (samplesOf (at .set) ws) (s .samples)) w in
+            let set-is : set ≡ at .set + setBits own = q .set-is ∙ ap (λ (ws : List ℕ). at .set + setBits ws) w in
+            let h : at .words + wordsFor (sizeFor gamma (at .remaining)) ≤ length (s .words) = rw (← size-is, ← taken-is) (omega (arith, r .in-words)) in
+            let k : at .samples + samplesOfSize (sizeFor gamma (at .remaining)) ≤ length (s .samples)
+            = rw (← size-is, ← taken-is, ← ranked-is) (omega (arith, r .in-samples)) in
+            rw (
+              samples-are,
+              set-is,
+              p .words-are,
+              p .collide-is,
+              p .store-is,
+              p .count-is,
+              ranked-is,
+              taken-is,
+              size-is,
+              le-leb (at .words + wordsFor (sizeFor gamma (at .remaining))) (length (s .words)) h,
+              le-leb (at .samples + samplesOfSize (sizeFor gamma (at .remaining))) (length (s .samples)) k,
+            )
 
 -- ---- what a turn tells
 
 pub turn-is : {turn other : Turn} {after : Stores} {t : Turned} → turn ≡ other → turned turn after ≡ t → turned other after ≡ t
 turn-is {after = after} e f = ap (λ (x : Turn). turned x after) (sym e) ∙ f
 
-module _ (gamma : Float) (at : Progress) (s : Stores) where
+module _ (rule : Rule) (at : Progress) (s : Stores) where
   pub record IsPlaced (size : ℕ) (next : Progress) (after : Stores) : Type 0 where
-    pub has-room : hasRoom gamma at s ≡ true
-    pub size-is : size ≡ nextSize gamma at
-    pub next-is : next ≡ nextProgress gamma at s
-    pub stores-are : after ≡ nextStores gamma at s
+    pub has-room : hasRoom rule at s ≡ true
+    pub size-is : size ≡ nextSize rule at
+    pub next-is : next ≡ nextProgress rule at s
+    pub stores-are : after ≡ nextStores rule at s
 
-  pub turn-placed : {size : ℕ} {next : Progress} {after : Stores} → turned (T.Placed size next) after ≡ levelTurn gamma at s → IsPlaced size next after
+  pub turn-placed : {size : ℕ} {next : Progress} {after : Stores} → turned (T.Placed size next) after ≡ levelTurn rule at s → IsPlaced size next after
   unfolding levelTurn
-  turn-placed {size} {next} {after} e = go (hasRoom gamma at s) refl e
+  turn-placed {size} {next} {after} e = go (hasRoom rule at s) refl e
     where
-      go : (b : Bool) → hasRoom gamma at s ≡ b
-          → turned (T.Placed size next) after ≡ cond b (turned (T.Placed (nextSize gamma at) (nextProgress gamma at s)) (nextStores gamma at s)) (turned T.NoRoom s)
+      go : (b : Bool) → hasRoom rule at s ≡ b
+          → turned (T.Placed size next) after ≡ cond b (turned (T.Placed (nextSize rule at) (nextProgress rule at s)) (nextStores rule at s)) (turned T.NoRoom s)
           → IsPlaced size next after
       go true h f =
-          let t : T.Placed size next ≡ T.Placed (nextSize gamma at) (nextProgress gamma at s) = ap (λ (x : Turned). x .turn) f in
+          let t : T.Placed size next ≡ T.Placed (nextSize rule at) (nextProgress rule at s) = ap (λ (x : Turned). x .turn) f in
           record { has-room = h; size-is = cc; next-is = cc; stores-are = ap (λ (x : Turned). x .stores) f }
       go false h f =
           let t : T.Placed size next ≡ T.NoRoom = ap (λ (x : Turned). x .turn) f in
           let z : _≡_ {A = ℕ} 0 1 = cc in absurd (omega arith)
 
-  pub turn-full : {after : Stores} → turned T.NoRoom after ≡ levelTurn gamma at s → (hasRoom gamma at s ≡ false) × (after ≡ s)
+  pub turn-full : {after : Stores} → turned T.NoRoom after ≡ levelTurn rule at s → (hasRoom rule at s ≡ false) × (after ≡ s)
   unfolding levelTurn
-  turn-full {after} e = go (hasRoom gamma at s) refl e
+  turn-full {after} e = go (hasRoom rule at s) refl e
     where
-      go : (b : Bool) → hasRoom gamma at s ≡ b
-          → turned T.NoRoom after ≡ cond b (turned (T.Placed (nextSize gamma at) (nextProgress gamma at s)) (nextStores gamma at s)) (turned T.NoRoom s)
-          → (hasRoom gamma at s ≡ false) × (after ≡ s)
+      go : (b : Bool) → hasRoom rule at s ≡ b
+          → turned T.NoRoom after ≡ cond b (turned (T.Placed (nextSize rule at) (nextProgress rule at s)) (nextStores rule at s)) (turned T.NoRoom s)
+          → (hasRoom rule at s ≡ false) × (after ≡ s)
       go true h f =
-          let t : T.NoRoom ≡ T.Placed (nextSize gamma at) (nextProgress gamma at s) = ap (λ (x : Turned). x .turn) f in
+          let t : T.NoRoom ≡ T.Placed (nextSize rule at) (nextProgress rule at s) = ap (λ (x : Turned). x .turn) f in
           let z : _≡_ {A = ℕ} 0 1 = cc in absurd (omega arith)
       go false h f = (h, ap (λ (x : Turned). x .stores) f)

@@ -7,10 +7,10 @@ use lib.ListN.{length}
 use Rattle.bounds.specs.Bounds.{maxIds, levelLimit, headSizes}
 use Rattle.laws.specs.Bits.{wordsFor}
 use Rattle.laws.specs.Stores.{zeros, filled}
-use Rattle.rule.specs.Rule.{RunEnd, built, noRoom, idsLeft, run}
+use Rattle.rule.specs.Rule.{Rule, RunEnd, built, noRoom, idsLeft, run}
 use Rattle.sizes.specs.Gamma.{Allowed}
 use Rattle.sizes.specs.Sizes.{sizeFor}
-use Rattle.head.specs.Index.{ruleOf, roomOf, indexWords, indexSamples, indexSizes}
+use Rattle.head.specs.Index.{roomOf, indexWords, indexSamples, indexSizes}
 use Rattle.run.specs.Stores.{Stores}
 use Rattle.run.specs.declared.Run.{Run}
 use Rattle.run.specs.declared.Run.the-variants as R
@@ -32,10 +32,10 @@ pub record Begun (gamma : Float) (count : ℕ) (sizes : List ℕ) (s : Stores) :
   pub clear-samples : s .samples ≡ zeros (length (s .samples))
   pub clear-collide : s .collide ≡ zeros (length (s .collide))
 
--- How it ends: as the level rule does; collide is 0; and where it is built, sizes, words and samples are those of the index, with 0 past them.
-pub record Ran (gamma : Float) (ids : List ℕ) (s : Stores) (end : Run) (sizes′ : List ℕ) (s′ : Stores) : Type 0 where
-  pub outcome : runOf end ≡ run (ruleOf gamma) (roomOf (length (s .words)) (length (s .samples))) ids levelLimit
+-- How it ends, by a rule of positions and sizes: as the level rule does; collide is 0; and where it is built, sizes, words and samples are those of the index, with 0 past them.
+pub record Ran (rule : Rule) (ids : List ℕ) (s : Stores) (end : Run) (sizes′ : List ℕ) (s′ : Stores) : Type 0 where
+  pub outcome : runOf end ≡ run rule (roomOf (length (s .words)) (length (s .samples))) ids levelLimit
   pub collide-is : s′ .collide ≡ zeros (length (s .collide))
-  pub sizes-are : (n : ℕ) → runOf end ≡ built n → sizes′ ≡ filled (indexSizes (ruleOf gamma) ids n) headSizes
-  pub words-are : (n : ℕ) → runOf end ≡ built n → s′ .words ≡ filled (indexWords (ruleOf gamma) ids n) (length (s .words))
-  pub samples-are : (n : ℕ) → runOf end ≡ built n → s′ .samples ≡ filled (indexSamples (ruleOf gamma) ids n) (length (s .samples))
+  pub sizes-are : (n : ℕ) → runOf end ≡ built n → sizes′ ≡ filled (indexSizes rule ids n) headSizes
+  pub words-are : (n : ℕ) → runOf end ≡ built n → s′ .words ≡ filled (indexWords rule ids n) (length (s .words))
+  pub samples-are : (n : ℕ) → runOf end ≡ built n → s′ .samples ≡ filled (indexSamples rule ids n) (length (s .samples))

@@ -10,10 +10,9 @@ use Rattle.bounds.specs.Bounds.{maxIds, maxBits, levelLimit}
 use Rattle.laws.specs.Bits.{wordsFor, packed}
 use Rattle.laws.specs.Stores.{fronted, zeros, pasted}
 use Rattle.ranks.specs.Ranks.{setBits, samplesOf}
-use Rattle.rule.specs.Rule.{single, rest}
+use Rattle.rule.specs.Rule.{Rule, single, rest}
 use Rattle.sizes.specs.Gamma.{Allowed}
-use Rattle.sizes.specs.Sizes.{samplesFor}
-use Rattle.head.specs.Index.{ruleOf}
+use Rattle.sizes.specs.Sizes.{sizeFor, samplesFor}
 use Rattle.head.specs.Layout.{samplesOfSize}
 use Rattle.run.specs.Stores.{Stores, stores}
 use Rattle.run.specs.declared.Progress.{Progress}
@@ -54,10 +53,10 @@ pub record SampledAt (before to : ℕ) (ws samples : List ℕ) (told : ℕ) (sam
 -- ---- the whole level
 
 -- the size of the next level
-abbrev pub nextSize : Float → Progress → ℕ
-nextSize gamma at = ruleOf gamma .size (at .remaining)
+abbrev pub nextSize : Rule → Progress → ℕ
+nextSize rule at = rule .size (at .remaining)
 
--- What the next level asks.
+-- What the next level asks, where gamma gives the sizes.
 pub record TurnRoom (gamma : Float) (at : Progress) (s : Stores) : Type 0 where
   pub allowed : Allowed gamma
   pub few-ids : at .remaining ≤ maxIds
@@ -66,7 +65,7 @@ pub record TurnRoom (gamma : Float) (at : Progress) (s : Stores) : Type 0 where
   pub in-rest : at .remaining ≤ length (s .rest)
   pub in-words : at .words ≤ length (s .words)
   pub in-samples : at .samples ≤ length (s .samples)
-  pub in-collide : wordsFor (nextSize gamma at) ≤ length (s .collide)
+  pub in-collide : wordsFor (sizeFor gamma (at .remaining)) ≤ length (s .collide)
   pub clear-words : drop (at .words) (s .words) ≡ zeros (length (s .words) - at .words)
   pub clear-collide : s .collide ≡ zeros (length (s .collide))
 
@@ -78,28 +77,28 @@ pub record Turned : Type 0 where
 abbrev pub turned : Turn → Stores → Turned
 turned turn s = record { turn = turn; stores = s }
 
-module _ (gamma : Float) (at : Progress) (s : Stores) where
+module _ (rule : Rule) (at : Progress) (s : Stores) where
   -- whether there is room for the level
   abbrev pub hasRoom : Bool
-  hasRoom = leb (at .words + wordsFor (nextSize gamma at)) (length (s .words)) && leb (at .samples + samplesOfSize (nextSize gamma at)) (length (s .samples))
+  hasRoom = leb (at .words + wordsFor (nextSize rule at)) (length (s .words)) && leb (at .samples + samplesOfSize (nextSize rule at)) (length (s .samples))
 
   -- the ids that come to it, each one's position, and the level's words
   abbrev pub comers : List ℕ
   comers = take (at .remaining) (s .rest)
 
   abbrev pub spot : ℕ → ℕ
-  spot x = ruleOf gamma .pos (at .level) (nextSize gamma at) x
+  spot x = rule .pos (at .level) (nextSize rule at) x
 
   abbrev pub ownWords : List ℕ
-  ownWords = packed (wordsFor (nextSize gamma at)) (single spot comers)
+  ownWords = packed (wordsFor (nextSize rule at)) (single spot comers)
 
   -- how far the build has come after the level
   abbrev pub nextProgress : Progress
   nextProgress = record {
     level = at .level + 1;
     remaining = length (rest spot comers);
-    words = at .words + wordsFor (nextSize gamma at);
-    samples = at .samples + samplesOfSize (nextSize gamma at);
+    words = at .words + wordsFor (nextSize rule at);
+    samples = at .samples + samplesOfSize (nextSize rule at);
     set = at .set + setBits ownWords;
   }
 
@@ -114,4 +113,4 @@ module _ (gamma : Float) (at : Progress) (s : Stores) where
 
   -- The level is placed, if there is room for it.
   unfoldable pub levelTurn : Turned
-  levelTurn = cond hasRoom (turned (T.Placed (nextSize gamma at) nextProgress) nextStores) (turned T.NoRoom s)
+  levelTurn = cond hasRoom (turned (T.Placed (nextSize rule at) nextProgress) nextStores) (turned T.NoRoom s)

@@ -2,6 +2,7 @@
 ghost use mathlib.Core.Path.{_≡_};
 ghost use lib.ListN.{take, drop};
 ghost use Rattle.mixer.specs.Position.{position};
+ghost use Rattle.head.specs.Index.{ruleOf};
 ghost use Rattle.run.specs.Stores.{stores};
 ghost use Rattle.run.specs.Run.{Begun, Ran};
 ghost use Rattle.run.specs.Turn.{Placeable, PlacedAt, Sampleable, SampledAt, TurnRoom, turned, levelTurn};
@@ -45,7 +46,7 @@ pub fn build_levels(
     rest: &mut [u64],
 ) -> Run
     requires { ⌜ Begun gamma count (now sizes) (stores (now words) (now samples) (now collide) (now rest)) ⌝ }
-    ensures { λ r. ⌜ Ran gamma (take count (now (rest .entry)))
+    ensures { λ r. ⌜ Ran (ruleOf gamma) (take count (now (rest .entry)))
         (stores (now (words .entry)) (now (samples .entry)) (now (collide .entry)) (now (rest .entry)))
         r (now (sizes .exit)) (stores (now (words .exit)) (now (samples .exit)) (now (collide .exit)) (now (rest .exit))) ⌝ }
 {
@@ -81,7 +82,7 @@ fn build_level(
 ) -> Turn
     requires { ⌜ TurnRoom gamma at (stores (now words) (now samples) (now collide) (now rest)) ⌝ }
     ensures { λ r. ⌜ turned r (stores (now (words .exit)) (now (samples .exit)) (now (collide .exit)) (now (rest .exit)))
-        ≡ levelTurn gamma at (stores (now (words .entry)) (now (samples .entry)) (now (collide .entry)) (now (rest .entry))) ⌝ }
+        ≡ levelTurn (ruleOf gamma) at (stores (now (words .entry)) (now (samples .entry)) (now (collide .entry)) (now (rest .entry))) ⌝ }
 {
     let size = sizes::size(gamma, at.remaining as u64);
     let taken = u64s(size) as usize;

@@ -7,10 +7,10 @@ use Rattle.list_cases.proofs.compare.Statement.{statement}
 use Rattle.list_cases.proofs.compare.Tie as tie
 
 abbrev Inv-loop : tie.InvT-loop
-Inv-loop kind buffer₀ numbers₀ store₀ place₀ cases₀ buffer numbers store place cases = length store ≡ length store₀
+Inv-loop case buffer₀ numbers₀ store₀ place₀ cases₀ buffer numbers store place cases = length store ≡ length store₀
 
 abbrev μ-loop : tie.MeasureT-loop
-μ-loop kind buffer₀ numbers₀ store₀ place₀ cases₀ buffer numbers store place cases = 1000000 - cases
+μ-loop case buffer₀ numbers₀ store₀ place₀ cases₀ buffer numbers store place cases = 1000000 - cases
 
 pub compare-spec : {M : Type 1} → statement M
 compare-spec =
