@@ -1,5 +1,5 @@
-//! Links libhost.a, the proved calls, from the folder that `SHAWLTIDE_LIB` names, or from where `tools/libhost` writes it. libhost.id beside it says which
-//! toolchain proved it.
+//! Links libhost.a, the proved calls, from the folder that `SHAWLTIDE_LIB` names, or from where `tools/libhost` writes it. libhost.version beside it says for
+//! which version of the crate it is, libhost.id which toolchain proved it.
 
 use std::path::{Path, PathBuf};
 use std::{env, fs, process};
@@ -13,6 +13,7 @@ fn main() {
     if !library.exists() {
         stop(format!("{} is not there: tools/libhost makes it.", library.display()));
     }
+    ask_version(&library, folder.join("libhost.version"));
     println!("cargo:rustc-link-search=native={}", folder.display());
     println!("cargo:rustc-link-lib=static=host");
     println!(
@@ -32,6 +33,24 @@ fn folder(package: &Path) -> PathBuf {
             }
             named
         }
+    }
+}
+
+/// The calls of another version may take other parameters, which no linker finds.
+fn ask_version(library: &Path, file: PathBuf) {
+    let wanted = env::var("CARGO_PKG_VERSION").expect("cargo sets it");
+    println!("cargo:rerun-if-changed={}", file.display());
+    match fs::read_to_string(&file) {
+        Ok(version) if version.trim() == wanted => {}
+        Ok(version) => stop(format!(
+            "{} is for version {} of the crate, and this is {wanted}: the tools/libhost of {wanted} makes the one to link.",
+            library.display(),
+            version.trim()
+        )),
+        Err(_) => stop(format!(
+            "{} is not there to say that libhost.a is for version {wanted} of the crate: the tools/libhost of {wanted} makes both.",
+            file.display()
+        )),
     }
 }
 

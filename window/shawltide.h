@@ -1,5 +1,8 @@
 /* Shawltide's calls for C, in libhost.a for x86-64 Linux: ids to row numbers, with no two ids on one row, and their index as bytes to keep on disk.
  *
+ * The version. A program has to be compiled with the header of the version that made libhost.a, since the calls of another version may have other
+ * parameters.
+ *
  * The result. Each call answers with one number: a value, SHAWLTIDE_NONE for none, SHAWLTIDE_REFUSED(r) for refusal r of the list below. Every
  * input is answered; no call traps, allocates, keeps a pointer or runs on.
  *
@@ -51,10 +54,15 @@ extern "C" {
 #define SHAWLTIDE_BLOCK_CONTENT 62
 #define SHAWLTIDE_MIN_IMAGE (2 * SHAWLTIDE_BLOCK_BYTES)
 
-/* Places of a head (id count, level count, sizes), and what out of a build or a reading and place of a lookup need at least. */
-#define SHAWLTIDE_HEAD (SHAWLTIDE_HEAD_SIZES + 2)
+/* Places of a head (kind, id count, level count, sizes), and what out of a build or a reading and place of a lookup need at least. */
+#define SHAWLTIDE_HEAD (SHAWLTIDE_HEAD_SIZES + 3)
 #define SHAWLTIDE_OUT (SHAWLTIDE_HEAD + 1)
 #define SHAWLTIDE_PLACE 2
+
+/* ---- Kinds of hash, by which an index gives ids their places ---- */
+
+/* The plain mixer, the public SplitMix64 step. Every other number is refused with 16. */
+#define SHAWLTIDE_KIND_PLAIN 0
 
 /* ---- Results ---- */
 
@@ -71,8 +79,9 @@ static inline uint64_t shawltide_refusal(uint64_t result) {
 }
 
 /* Refusals, with what a refused call leaves. Where it does not say otherwise, all stores are as they were, but for out of a build or a reading (there).
- * Where several apply, the smallest counts; but sets are asked 10 before 9, images 11 last, and a short out of a build or a reading, or place of a
- * lookup, is found before anything else. */
+ * Where several apply, 16 counts first, and else the smallest; but sets are asked 10 before 9, images 11 last, and an image that is read 16 only after
+ * 13, 14 and the first word of its content (15). Before all of them a short out of a build or a reading, or place of a lookup, is found (11), and then a
+ * head of another length (7). */
 
 /* Gamma is not above 1.01, or is NaN. */
 #define SHAWLTIDE_GAMMA_TOO_SMALL 1
@@ -104,6 +113,8 @@ static inline uint64_t shawltide_refusal(uint64_t result) {
 #define SHAWLTIDE_BAD_BLOCK 14
 /* The blocks of the image are sound, but hold no index; or a head that is to be written has a size past its levels that is not 0. */
 #define SHAWLTIDE_UNFIT_CONTENT 15
+/* The kind of a build, of a head or of an image is not known: a newer version may know it. */
+#define SHAWLTIDE_UNKNOWN_KIND 16
 
 /* ---- Room, in places, and bytes of images. Arguments of these macros are evaluated more than once. ---- */
 
@@ -182,28 +193,28 @@ uint64_t shawltide_set_members(uint64_t capacity, const uint64_t *words, size_t 
 /* ---- The index. A level for r ids has gamma * r bits, rounded down, but at least MIN_BITS; level 0 has all ids, and no level is larger. A level of s
  * bits takes WORDS(s) words and SAMPLES(s) samples. ---- */
 
-/* Builds an index of the ids, in any order: 0. gamma is above 1.01 and at most 16.
+/* Builds an index of the ids, in any order: 0. kind is SHAWLTIDE_KIND_PLAIN; gamma is above 1.01 and at most 16.
  * words, samples: as many places as the levels take together, or more. They may hold anything; then they hold the index, and 0 past it.
  * collide: as many places as level 0 has words, or more. rest: as many as there are ids, or more. Both may hold anything and are then all 0.
  * out: SHAWLTIDE_OUT places or more. out[0] is the value that refusal 5 or 6 carries, else 0; out[1] to out[HEAD] are the head, or zeros where the
  *      build is refused; later places stay. A short out stays as it was.
- * Refused: 11, for out; 1, 2, 3, 4, 5, 6. */
-uint64_t shawltide_build(double gamma, const uint64_t *ids, size_t ids_len, uint64_t *words, size_t words_len,
+ * Refused: 11, for out; 16, 1, 2, 3, 4, 5, 6. */
+uint64_t shawltide_build(uint64_t kind, double gamma, const uint64_t *ids, size_t ids_len, uint64_t *words, size_t words_len,
                          uint64_t *samples, size_t samples_len, uint64_t *collide, size_t collide_len,
                          uint64_t *rest, size_t rest_len, uint64_t *out, size_t out_len);
 
 /* The id's row, below the id count; or none. An id that the index was not built of gets none or a row of another: a row is no proof of membership.
  * head: the SHAWLTIDE_HEAD numbers of a build, from out[1] on. words, samples: as the build left them, or their used part.
  * place: SHAWLTIDE_PLACE places or more. It gets the level and the position of a row, and is else unchanged; later places stay.
- * Refused: 11, for place; 7, 8. */
+ * Refused: 11, for place; 7, for the length of the head; 16, 7, 8. */
 uint64_t shawltide_lookup(const uint64_t *head, size_t head_len, const uint64_t *words, size_t words_len,
                           const uint64_t *samples, size_t samples_len, uint64_t id, uint64_t *place, size_t place_len);
 
 /* Writes at each row the id that lookup sends there: 0. ids: those of the index, in any order.
  * head, words, samples: as for a lookup.
- * rows: as many places as the head's id count, head[0], or more; later places stay. marks: WORDS(head[0]) places or more; those are then 0, later
+ * rows: as many places as the head's id count, head[1], or more; later places stay. marks: WORDS(head[1]) places or more; those are then 0, later
  *      ones stay.
- * Refused: 7, 11, 12. */
+ * Refused: 7, for the length of the head; 16, 7, 11, 12. */
 uint64_t shawltide_rows(const uint64_t *head, size_t head_len, const uint64_t *words, size_t words_len,
                         const uint64_t *samples, size_t samples_len, const uint64_t *ids, size_t ids_len,
                         uint64_t *rows, size_t rows_len, uint64_t *marks, size_t marks_len);
@@ -214,16 +225,17 @@ uint64_t shawltide_rows(const uint64_t *head, size_t head_len, const uint64_t *w
 /* Writes the index to the front of the image: how many blocks. Bytes past them stay.
  * head, words, samples: as for a lookup; what is past their used part is not read.
  * image: IMAGE_BYTES(words_len, samples_len) bytes or more, or what the used part takes. It may hold anything.
- * Refused: 7, 15, 11. */
+ * Refused: 7, for the length of the head; 16, 7, 15, 11. */
 uint64_t shawltide_image_write(const uint64_t *head, size_t head_len, const uint64_t *words, size_t words_len,
                                const uint64_t *samples, size_t samples_len, uint8_t *image, size_t image_len);
 
-/* Reads an image, a slice whose length is exactly that of its blocks: 0. Whichever one word of an image is changed, it is refused with 14.
+/* Reads an image, a slice whose length is exactly that of its blocks: 0. Whichever one word of an image is changed, it is refused with 14. An image of
+ * the form before kinds is read as one of SHAWLTIDE_KIND_PLAIN; written again, it has the form of today, which is one word longer.
  * words, samples: IMAGE_WORDS(image_len) and IMAGE_SAMPLES(image_len) places or more, or as many as the index uses. They may hold anything; then they
  *      hold the index, and 0 past it.
  * out: SHAWLTIDE_OUT places or more. out[0] is the block that refusal 14 carries, else 0; out[1] to out[HEAD] are the head, or zeros where the reading
  *      is refused; later places stay. A short out stays as it was.
- * Refused: 11, for out; 13, 14, 15; 11, for words and samples. */
+ * Refused: 11, for out; 13, 14; 15, for the first word of the content; 16; 15, for the rest of it; 11, for words and samples. */
 uint64_t shawltide_image_read(const uint8_t *image, size_t image_len, uint64_t *words, size_t words_len,
                               uint64_t *samples, size_t samples_len, uint64_t *out, size_t out_len);
 

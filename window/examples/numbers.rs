@@ -2,7 +2,7 @@
 //! header for C, and `tools/window-tests` compares the two.
 
 use shawltide::bounds::*;
-use shawltide::{host, Refusal, Room};
+use shawltide::{host, Kind, Refusal, Room};
 
 fn main() {
     bounds();
@@ -18,6 +18,7 @@ fn bounds() {
     println!("LEVEL_LIMIT {LEVEL_LIMIT}\nHEAD_SIZES {HEAD_SIZES}\nMAX_LEVELS {MAX_LEVELS}");
     println!("SAMPLE_WORDS {SAMPLE_WORDS}\nSAMPLE_BITS {SAMPLE_BITS}");
     println!("HEAD {}\nOUT {}\nPLACE {}", host::HEAD, host::OUT, host::PLACE);
+    println!("KIND_PLAIN {}", Kind::Plain.number());
     println!("BLOCK_BYTES {BLOCK_BYTES}\nBLOCK_CONTENT {BLOCK_CONTENT}\nMIN_IMAGE {MIN_IMAGE}");
     println!("MAX_IMAGE {}", Room::largest().image_bytes());
 }
@@ -39,6 +40,7 @@ fn refusals() {
         ("UNFIT_LENGTH", Refusal::UnfitLength),
         ("BAD_BLOCK", Refusal::BadBlock(0)),
         ("UNFIT_CONTENT", Refusal::UnfitContent),
+        ("UNKNOWN_KIND", Refusal::UnknownKind),
     ] {
         println!("{name} {}", refusal.number());
     }

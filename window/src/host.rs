@@ -19,8 +19,8 @@ use crate::bounds::HEAD_SIZES;
 /// The result for none.
 pub const NONE: u64 = u64::MAX;
 
-/// How many numbers a head is: id count, level count, sizes.
-pub const HEAD: usize = HEAD_SIZES + 2;
+/// How many numbers a head is: kind, id count, level count, sizes.
+pub const HEAD: usize = HEAD_SIZES + 3;
 
 /// How many places `out` of a build or of a reading needs: one for the value that a refusal carries, and the head's.
 pub const OUT: usize = HEAD + 1;
@@ -62,6 +62,7 @@ mod c {
             out_len: usize,
         ) -> u64;
         pub fn shawltide_build(
+            kind: u64,
             gamma: f64,
             ids: *const u64,
             ids_len: usize,
@@ -186,8 +187,12 @@ pub fn set_members(capacity: u64, words: &[u64], out: &mut [u64]) -> u64 {
     unsafe { c::shawltide_set_members(capacity, words.as_ptr(), words.len(), out.as_mut_ptr(), out.len()) }
 }
 
-/// Builds an index of the ids: 0. `out` gets the value that refusal 5 or 6 carries, else 0, and the head.
+/// Builds an index of the ids, by the kind of hash of that number ([`Kind::number`](crate::Kind::number)): 0. `out` gets the value that refusal 5 or 6
+/// carries, else 0, and the head.
+// As many parameters as the call has.
+#[allow(clippy::too_many_arguments)]
 pub fn build(
+    kind: u64,
     gamma: f64,
     ids: &[u64],
     words: &mut [u64],
@@ -198,6 +203,7 @@ pub fn build(
 ) -> u64 {
     unsafe {
         c::shawltide_build(
+            kind,
             gamma,
             ids.as_ptr(),
             ids.len(),

@@ -14,7 +14,8 @@ impl Index {
     /// The index as an image: bytes in blocks of 512, each with its number and a check. `docs/REFERENCE.md` has the form. The same index has the same
     /// image, on any machine.
     ///
-    /// Refused are only indexes that no build made ([`Index::from_parts`]): with a head that does not fit (7), or a size past its levels (15).
+    /// Refused are only indexes that no build made ([`Index::from_parts`]): with a kind that is not known (16), a head that does not fit (7), or a size past
+    /// its levels (15).
     ///
     /// ```
     /// use shawltide::{bounds::BLOCK_BYTES, Index};
@@ -34,8 +35,12 @@ impl Index {
 
     /// The index of an image: equal to the built one that the image was made of.
     ///
-    /// Refused are bytes that are no image: a length that is none (13), a block whose number or check is wrong (14), content that is no index (15).
-    /// Whichever one word of an image is changed, it is refused with 14 and that word's block.
+    /// Refused are bytes that are no image: a length that is none (13), a block whose number or check is wrong (14), content that is no index (15); and an
+    /// index of a kind that this version does not know (16), which a newer one may have made. Whichever one word of an image is changed, it is refused with
+    /// 14 and that word's block.
+    ///
+    /// An image of the form before kinds ([`FORM`](crate::FORM) 1) is read as [`Kind::Plain`](crate::Kind::Plain): equal to what is built of the same ids
+    /// and gamma today. Written again, it has the form of today.
     ///
     /// ```
     /// use shawltide::{Index, Refusal};
@@ -91,7 +96,7 @@ impl Index {
 
     /// The index of a file that [`Index::save`] wrote. Refused is what [`Index::from_image`] refuses.
     ///
-    /// Of a file that is longer than any image, no more than a block is read past the longest: it is refused with 13, 14 or 15, for what was read.
+    /// Of a file that is longer than any image, no more than a block is read past the longest: it is refused with 13 to 16, for what was read.
     pub fn load(path: impl AsRef<Path>) -> Result<Index, ImageError> {
         let path = path.as_ref();
         let image = read(path).map_err(|error| ImageError::Read {
@@ -119,7 +124,7 @@ fn read(path: &Path) -> io::Result<Vec<u8>> {
 /// use std::io::ErrorKind;
 /// match Index::load("no/such.image") {
 ///     Err(ImageError::Read { error, .. }) if error.kind() == ErrorKind::NotFound => println!("build it"),
-///     Err(ImageError::Refused { refusal, .. }) => println!("damaged: {refusal}"),
+///     Err(ImageError::Refused { refusal, .. }) => println!("build it again: {refusal}"),
 ///     other => println!("{} ids", other?.len()),
 /// }
 /// # Ok::<(), ImageError>(())

@@ -1,15 +1,22 @@
 use crate::bounds::MAX_IDS;
 use crate::host;
+use crate::kind::Kind;
 use crate::refusal::{answer, Refusal};
 use crate::room::{words_for, Room};
 use std::fmt;
+
+/// Places of a head: the number of the kind, the id count, the level count, and from there on the sizes.
+const KIND: usize = 0;
+const COUNT: usize = 1;
+const LEVELS: usize = 2;
+const SIZES: usize = 3;
 
 /// An index of ids: gives each its row.
 ///
 /// Any number of threads may ask one index at once, with no lock: no call changes it.
 #[derive(Clone, PartialEq, Eq)]
 pub struct Index {
-    /// Id count, level count, sizes.
+    /// Kind, id count, level count, sizes.
     head: [u64; host::HEAD],
     words: Vec<u64>,
     samples: Vec<u64>,
@@ -25,7 +32,7 @@ pub struct Place {
 }
 
 impl Index {
-    /// Builds an index of the ids. Their order makes no difference.
+    /// Builds an index of the ids, by the plain kind of hash. Their order makes no difference.
     ///
     /// Gamma is above 1.01 and at most 16. More makes a larger index, of fewer levels; [`GAMMA`](crate::GAMMA) is right for most, and README has a table.
     ///
@@ -42,8 +49,20 @@ impl Index {
     /// # Ok::<(), Refusal>(())
     /// ```
     pub fn build(ids: &[u64], gamma: f64) -> Result<Index, Refusal> {
-        match build_in(ids, gamma, Room::likely(ids.len(), gamma)) {
-            Err(Refusal::NoRoomForLevel(_)) => build_in(ids, gamma, Room::enough(ids.len(), gamma)),
+        Index::build_with(Kind::Plain, ids, gamma)
+    }
+
+    /// Builds an index of the ids by any kind of hash; else as [`Index::build`]. Nothing can be said of the rows that two kinds give an id.
+    ///
+    /// ```
+    /// use shawltide::{Index, Kind, Refusal};
+    /// let index = Index::build_with(Kind::Plain, &[10, 20, 30], 2.0)?;
+    /// assert_eq!(index.kind(), Ok(Kind::Plain));
+    /// # Ok::<(), Refusal>(())
+    /// ```
+    pub fn build_with(kind: Kind, ids: &[u64], gamma: f64) -> Result<Index, Refusal> {
+        match build_in(kind, ids, gamma, Room::likely(ids.len(), gamma)) {
+            Err(Refusal::NoRoomForLevel(_)) => build_in(kind, ids, gamma, Room::enough(ids.len(), gamma)),
             answer => answer,
         }
     }
@@ -52,7 +71,7 @@ impl Index {
     pub(crate) fn left_in(out: &[u64; host::OUT], mut words: Vec<u64>, mut samples: Vec<u64>) -> Index {
         let mut head = [0; host::HEAD];
         head.copy_from_slice(&out[1..]);
-        let sizes = head[2..].iter().take(head[1] as usize);
+        let sizes = head[SIZES..].iter().take(head[LEVELS] as usize);
         let used = sizes.map(|size| Room::of_level(*size)).reduce(Room::plus);
         let used = used.expect("an index has a level");
         words.truncate(used.words);
@@ -62,8 +81,8 @@ impl Index {
         Index { head, words, samples }
     }
 
-    /// An index kept elsewhere: the head (id count, level count, sizes), words and samples that [`Index::parts`] or [`Index::into_parts`] gave. Any
-    /// others are taken too; then a lookup may be refused with 7 or 8, and the rows that it gives are not those of an index.
+    /// An index kept elsewhere: the head (kind, id count, level count, sizes), words and samples that [`Index::parts`] or [`Index::into_parts`] gave. Any
+    /// others are taken too; then a lookup may be refused with 7, 8 or 16, and the rows that it gives are not those of an index.
     pub fn from_parts(head: [u64; host::HEAD], words: Vec<u64>, samples: Vec<u64>) -> Index {
         Index { head, words, samples }
     }
@@ -90,7 +109,8 @@ impl Index {
 
     /// The id's row. An id that is not of the index has none, or gets the row of another.
     ///
-    /// Refused are only indexes that no build made ([`Index::from_parts`], or an image made by hand): with a head that does not fit (7) or a row that cannot be (8).
+    /// Refused are only indexes that no build made ([`Index::from_parts`], or an image made by hand): with a kind that is not known (16), a head that does
+    /// not fit (7) or a row that cannot be (8).
     ///
     /// ```
     /// use shawltide::Index;
@@ -159,9 +179,22 @@ impl Index {
         Ok(rows)
     }
 
+    /// By which kind of hash the index was built. Refused with 16 is a number that is not known, which only a head has that no build made and no image
+    /// gave ([`Index::from_parts`]).
+    ///
+    /// ```
+    /// use shawltide::{Index, Kind, GAMMA};
+    /// let index = Index::build(&[10, 20, 30], GAMMA)?;
+    /// assert_eq!(index.kind()?, Kind::Plain);
+    /// # Ok::<(), shawltide::Refusal>(())
+    /// ```
+    pub fn kind(&self) -> Result<Kind, Refusal> {
+        Kind::try_from(self.head[KIND])
+    }
+
     /// How many ids the index has.
     pub fn len(&self) -> usize {
-        self.head[0] as usize
+        self.head[COUNT] as usize
     }
 
     pub fn is_empty(&self) -> bool {
@@ -170,7 +203,7 @@ impl Index {
 
     /// How many levels the index has.
     pub fn levels(&self) -> usize {
-        self.head[1] as usize
+        self.head[LEVELS] as usize
     }
 
     /// How many words and samples there are.
@@ -181,22 +214,28 @@ impl Index {
         }
     }
 
-    /// How many bits the words and the samples take. The head takes [`host::HEAD`] numbers more, 816 bytes.
+    /// How many bits the words and the samples take. The head takes [`host::HEAD`] numbers more, 824 bytes.
     pub fn bits(&self) -> usize {
         64 * (self.words.len() + self.samples.len())
     }
 }
 
-/// Its counts, and not its content.
+/// Its kind and counts, and not its content.
 ///
 /// ```
 /// let index = shawltide::Index::build(&[10, 20, 30], 2.0)?;
-/// assert_eq!(format!("{index:?}"), "Index { ids: 3, levels: 1, words: 4, samples: 1 }");
+/// assert_eq!(format!("{index:?}"), "Index { kind: Plain, ids: 3, levels: 1, words: 4, samples: 1 }");
 /// # Ok::<(), shawltide::Refusal>(())
 /// ```
 impl fmt::Debug for Index {
     fn fmt(&self, f: &mut fmt::Formatter) -> fmt::Result {
+        let known = self.kind();
+        let kind: &dyn fmt::Debug = match &known {
+            Ok(kind) => kind,
+            Err(_) => &self.head[KIND],
+        };
         f.debug_struct("Index")
+            .field("kind", kind)
             .field("ids", &self.len())
             .field("levels", &self.levels())
             .field("words", &self.words.len())
@@ -206,13 +245,23 @@ impl fmt::Debug for Index {
 }
 
 /// A build in so much room.
-fn build_in(ids: &[u64], gamma: f64, room: Room) -> Result<Index, Refusal> {
+fn build_in(kind: Kind, ids: &[u64], gamma: f64, room: Room) -> Result<Index, Refusal> {
     let mut words = vec![0; room.words];
     let mut samples = vec![0; room.samples];
     let mut collide = vec![0; Room::of_first_level(ids.len(), gamma).words];
     let mut rest = vec![0; ids.len().min(MAX_IDS)];
     let mut out = [0; host::OUT];
-    let result = host::build(gamma, ids, &mut words, &mut samples, &mut collide, &mut rest, &mut out);
+    let kind = kind.number();
+    let result = host::build(
+        kind,
+        gamma,
+        ids,
+        &mut words,
+        &mut samples,
+        &mut collide,
+        &mut rest,
+        &mut out,
+    );
     answer(result, out[0])?;
     Ok(Index::left_in(&out, words, samples))
 }
@@ -318,7 +367,10 @@ mod tests {
     #[test]
     fn shown_in_one_short_line() -> Result<(), Refusal> {
         let shown = format!("{:?}", Index::build(&ids(100_000), GAMMA)?);
-        assert!(shown.starts_with("Index { ids: 100000, levels: "), "{shown}");
+        assert!(
+            shown.starts_with("Index { kind: Plain, ids: 100000, levels: "),
+            "{shown}"
+        );
         assert!(shown.len() < 80, "{shown}");
         Ok(())
     }
@@ -339,7 +391,7 @@ mod tests {
     fn room_is_always_enough() {
         let mut twice = ids(2_000);
         twice.extend_from_within(..);
-        let tried = build_in(&twice, GAMMA, Room::likely(twice.len(), GAMMA));
+        let tried = build_in(Kind::Plain, &twice, GAMMA, Room::likely(twice.len(), GAMMA));
         assert!(matches!(tried, Err(Refusal::NoRoomForLevel(_))));
         assert_eq!(Index::build(&twice, GAMMA), Err(Refusal::IdsRemain(4_000)));
     }
@@ -357,7 +409,7 @@ mod tests {
         assert_eq!(short.rows(&ids), Err(Refusal::UnfitHead));
 
         let mut endless = head;
-        endless[0] = u64::MAX;
+        endless[COUNT] = u64::MAX;
         let endless = Index::from_parts(endless, words.clone(), samples.clone());
         assert_eq!(endless.rows(&ids), Err(Refusal::UnfitHead));
 
@@ -367,6 +419,27 @@ mod tests {
         assert_eq!(damaged.row(ids[0]), Err(Refusal::UnfitRow));
         assert_eq!(damaged.rows_of(&ids[..1]), Err(Refusal::UnfitRow));
         assert_eq!(damaged.rows(&ids), Err(Refusal::WrongIds));
+        Ok(())
+    }
+
+    #[test]
+    fn a_kind_that_is_not_known() -> Result<(), Refusal> {
+        let ids = ids(600);
+        let index = Index::build(&ids, GAMMA)?;
+        assert_eq!(index.kind(), Ok(Kind::Plain));
+        for kind in [1, 2, 1 << 8, 1 << 32, u64::MAX] {
+            let (mut head, words, samples) = index.clone().into_parts();
+            head[KIND] = kind;
+            let foreign = Index::from_parts(head, words, samples);
+            assert_eq!(foreign.kind(), Err(Refusal::UnknownKind));
+            assert_eq!(foreign.lookup(ids[0]), Err(Refusal::UnknownKind));
+            assert_eq!(foreign.row(ids[0]), Err(Refusal::UnknownKind));
+            assert_eq!(foreign.rows_of(&ids[..1]), Err(Refusal::UnknownKind));
+            assert_eq!(foreign.rows(&ids), Err(Refusal::UnknownKind));
+            assert_eq!(foreign.to_image(), Err(Refusal::UnknownKind));
+            assert!(format!("{foreign:?}").starts_with(&format!("Index {{ kind: {kind}, ids: 600, ")));
+            assert_ne!(foreign, index);
+        }
         Ok(())
     }
 }

@@ -25,7 +25,11 @@
 //! `extend` of a [`BitSet`], which cannot refuse.
 //!
 //! **On disk.** [`Index::save`] keeps an index in a file and [`Index::load`] reads it back, so that it is built once. The file is an image, in blocks that
-//! have a check each: what is damaged is refused, with the block. [`Index::to_image`] and [`Index::from_image`] do the same with bytes.
+//! have a check each: what is damaged is refused, with the block. [`Index::to_image`] and [`Index::from_image`] do the same with bytes. Images of an older
+//! form are read too.
+//!
+//! **Kinds.** An index gives its ids their places by a hash, of which there can be several kinds. [`Index::build`] takes the plain one,
+//! [`Index::build_with`] any that this version knows; [`Index::kind`] says which it is.
 //!
 //! **Threads.** Every type here is `Send` and `Sync`: any number of threads may ask one [`Index`] or [`BitSet`] at once, with no lock. The calls of
 //! libhost.a keep nothing between two calls, so that builds in several threads do not meet.
@@ -49,6 +53,7 @@ pub mod bounds;
 pub mod host;
 mod image;
 mod index;
+mod kind;
 mod members;
 mod refusal;
 mod repeat;
@@ -59,6 +64,7 @@ mod set;
 pub use bounds::{GAMMA, MAX_BITS, MAX_IDS};
 pub use image::ImageError;
 pub use index::{Index, Place};
+pub use kind::Kind;
 pub use members::Iter;
 pub use refusal::Refusal;
 pub use repeat::first_repeat;
@@ -66,5 +72,6 @@ pub use room::Room;
 pub use set::BitSet;
 
 /// The form in which an index is kept: a head of [`host::HEAD`] numbers, words and samples. A version that makes indexes of another form has another number
-/// here, and at the beginning of its images.
-pub const FORM: u64 = 1;
+/// here, and at the beginning of the content of its images. Images of form 1, which have no kind, are read as [`Kind::Plain`], and written again in this
+/// form.
+pub const FORM: u64 = 2;

@@ -45,6 +45,8 @@ pub enum Refusal {
     BadBlock(u64),
     /// 15: what the blocks of an image hold is no index; or a head that is to be written has a size past its levels that is not 0.
     UnfitContent,
+    /// 16: the kind of hash that the head, the image or the caller of a build names is not known to this version.
+    UnknownKind,
 }
 
 impl Refusal {
@@ -66,6 +68,7 @@ impl Refusal {
             Refusal::UnfitLength => 13,
             Refusal::BadBlock(_) => 14,
             Refusal::UnfitContent => 15,
+            Refusal::UnknownKind => 16,
         }
     }
 
@@ -87,6 +90,7 @@ impl Refusal {
             13 => Refusal::UnfitLength,
             14 => Refusal::BadBlock(value),
             15 => Refusal::UnfitContent,
+            16 => Refusal::UnknownKind,
             _ => return None,
         })
     }
@@ -131,6 +135,7 @@ impl Refusal {
                 f,
                 "there is no whole index of this form: the image was cut off, or written by something else"
             ),
+            Refusal::UnknownKind => write!(f, "this kind of hash is not known to this version"),
         }
     }
 
@@ -151,6 +156,7 @@ impl Refusal {
             Refusal::UnfitLength => "take the image whole, or build it again",
             Refusal::BadBlock(_) => "take another copy of it, or build it again",
             Refusal::UnfitContent => "build it again",
+            Refusal::UnknownKind => "take kind 0 (plain), or a version that knows the kind",
         })
     }
 }
@@ -169,7 +175,7 @@ mod tests {
 
     #[test]
     fn numbers_come_back() {
-        for number in 1..=15 {
+        for number in 1..=16 {
             let refusal = Refusal::from_number(number, 30).expect("the table has it");
             assert_eq!(refusal.number(), number);
             assert_eq!(answer(NONE - number, 30), Err(refusal));
@@ -178,19 +184,19 @@ mod tests {
             assert_ne!(refusal.to_string().contains("; "), says_the_bound);
         }
         assert_eq!(Refusal::from_number(0, 30), None);
-        assert_eq!(Refusal::from_number(16, 30), None);
+        assert_eq!(Refusal::from_number(17, 30), None);
     }
 
     #[test]
     fn refusals_can_be_keys() {
-        let all: HashSet<_> = (1..=15).map(|number| Refusal::from_number(number, 30)).collect();
-        assert_eq!(all.len(), 15);
+        let all: HashSet<_> = (1..=16).map(|number| Refusal::from_number(number, 30)).collect();
+        assert_eq!(all.len(), 16);
         assert!(all.contains(&Some(Refusal::IdsRemain(30))));
     }
 
     #[test]
     fn values_stay() {
-        for value in [0, 1, MAX_BITS, NONE - 16, NONE] {
+        for value in [0, 1, MAX_BITS, NONE - 17, NONE] {
             assert_eq!(answer(value, 30), Ok(value));
         }
     }

@@ -1,5 +1,6 @@
 //! Images, held to the plain writing of them.
 
+mod damage;
 mod ids;
 mod plain;
 
@@ -7,11 +8,13 @@ use ids::ids;
 use shawltide::bounds::{BLOCK_BYTES, MAX_BITS, MAX_IDS, MIN_BITS, MIN_IMAGE};
 use shawltide::{host, Index, Refusal, Room, GAMMA};
 
-/// Places of the content: the form, the id count, the level count, the sizes.
+/// Places of the content: the form, the id count, the level count, the sizes. `kinds.rs` has what is asked of the kind, which stands behind the form. A head
+/// begins behind it.
 const FORM: usize = 0;
-const COUNT: usize = 1;
-const LEVELS: usize = 2;
-const SIZES: usize = 3;
+const COUNT: usize = 2;
+const LEVELS: usize = 3;
+const SIZES: usize = 4;
+const HEAD: usize = 1;
 
 fn plain_image(index: &Index) -> Vec<u8> {
     let (head, words, samples) = index.parts();
@@ -20,7 +23,7 @@ fn plain_image(index: &Index) -> Vec<u8> {
 
 fn plain_content(index: &Index) -> Vec<u64> {
     let (head, words, samples) = index.parts();
-    plain::content(head, words, samples)
+    plain::content(plain::FORM, head, words, samples)
 }
 
 #[test]
@@ -55,8 +58,8 @@ fn levels_of_any_size() -> Result<(), Refusal> {
     ] {
         let room: Vec<Room> = sizes.iter().map(|size| Room::of_level(*size)).collect();
         let mut head = [0; host::HEAD];
-        head[1] = sizes.len() as u64;
-        head[2..2 + sizes.len()].copy_from_slice(&sizes);
+        head[LEVELS - HEAD] = sizes.len() as u64;
+        head[SIZES - HEAD..][..sizes.len()].copy_from_slice(&sizes);
         let words = (0..room.iter().map(|room| room.words as u64).sum()).collect();
         let samples = (0..room.iter().map(|room| room.samples as u64).sum()).collect();
         let index = Index::from_parts(head, words, samples);
@@ -86,14 +89,14 @@ fn indexes_that_no_build_made_are_not_written() -> Result<(), Refusal> {
     assert!(of(head).is_ok());
     let changed = |place: usize, number| {
         let mut head = head;
-        head[place] = number;
+        head[place - HEAD] = number;
         of(head)
     };
-    assert_eq!(changed(0, MAX_IDS as u64 + 1), Err(Refusal::UnfitHead));
-    assert_eq!(changed(1, 0), Err(Refusal::UnfitHead));
-    assert_eq!(changed(1, u64::MAX), Err(Refusal::UnfitHead));
-    assert_eq!(changed(2, u64::MAX), Err(Refusal::UnfitHead));
-    assert_eq!(changed(101, 255), Err(Refusal::UnfitContent));
+    assert_eq!(changed(COUNT, MAX_IDS as u64 + 1), Err(Refusal::UnfitHead));
+    assert_eq!(changed(LEVELS, 0), Err(Refusal::UnfitHead));
+    assert_eq!(changed(LEVELS, u64::MAX), Err(Refusal::UnfitHead));
+    assert_eq!(changed(SIZES, u64::MAX), Err(Refusal::UnfitHead));
+    assert_eq!(changed(SIZES + 99, 255), Err(Refusal::UnfitContent));
     let short = Index::from_parts(head, words[1..].to_vec(), samples.clone());
     assert_eq!(short.to_image(), Err(Refusal::UnfitHead));
     Ok(())
@@ -103,33 +106,15 @@ fn indexes_that_no_build_made_are_not_written() -> Result<(), Refusal> {
 #[test]
 fn lengths() -> Result<(), Refusal> {
     let image = Index::build(&ids(2_000), GAMMA)?.to_image()?;
-    let own = image.len();
-    assert_eq!(own, 4 * BLOCK_BYTES);
-    let behind = [&image[..], &image[..BLOCK_BYTES]].concat();
-    for length in 0..=behind.len() {
-        let refusal = match length {
-            _ if length == own => continue,
-            _ if length < MIN_IMAGE || length % BLOCK_BYTES > 0 => Refusal::UnfitLength,
-            _ if length > own => Refusal::BadBlock(4),
-            _ => Refusal::UnfitContent,
-        };
-        assert_eq!(Index::from_image(&behind[..length]), Err(refusal), "{length} bytes");
-    }
+    assert_eq!(image.len(), 4 * BLOCK_BYTES);
+    damage::lengths(&image, &image[..BLOCK_BYTES]);
     Ok(())
 }
 
 #[test]
 fn every_changed_bit_is_found() -> Result<(), Refusal> {
     for count in [0, 300] {
-        let mut image = Index::build(&ids(count), GAMMA)?.to_image()?;
-        for place in 0..image.len() {
-            for bit in 0..8 {
-                image[place] ^= 1 << bit;
-                let refusal = Refusal::BadBlock((place / BLOCK_BYTES) as u64);
-                assert_eq!(Index::from_image(&image), Err(refusal), "bit {bit} of byte {place}");
-                image[place] ^= 1 << bit;
-            }
-        }
+        damage::every_bit(Index::build(&ids(count), GAMMA)?.to_image()?);
     }
     Ok(())
 }
@@ -156,7 +141,8 @@ fn content_that_is_no_index() -> Result<(), Refusal> {
     let levels = content[LEVELS];
     let changes = [
         (FORM, 0),
-        (FORM, 2),
+        (FORM, 3),
+        (FORM, u64::MAX),
         (COUNT, MAX_IDS as u64 + 1),
         (LEVELS, 0),
         (LEVELS, levels + 1),
@@ -231,7 +217,7 @@ fn calls_over_slices() -> Result<(), Refusal> {
 #[test]
 fn room_for_images() {
     assert_eq!(Room::of_level(MIN_BITS).image_bytes(), MIN_IMAGE);
-    for (words, blocks) in [(0, 2), (21, 2), (22, 3), (83, 3), (84, 4)] {
+    for (words, blocks) in [(0, 2), (20, 2), (21, 3), (82, 3), (83, 4)] {
         let room = Room { words, samples: 0 };
         assert_eq!(room.image_bytes(), blocks * BLOCK_BYTES, "{words} words");
     }

@@ -3,7 +3,7 @@
 mod ids;
 
 use ids::ids;
-use shawltide::{BitSet, ImageError, Index, Iter, Place, Refusal, Room, GAMMA};
+use shawltide::{BitSet, ImageError, Index, Iter, Kind, Place, Refusal, Room, GAMMA};
 use std::thread;
 
 const THREADS: u64 = 4;
@@ -15,6 +15,7 @@ fn every_type_may_go_to_another_thread_and_be_shared() {
     may::<ImageError>();
     may::<BitSet>();
     may::<Iter>();
+    may::<Kind>();
     may::<Place>();
     may::<Refusal>();
     may::<Room>();

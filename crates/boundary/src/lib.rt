@@ -68,6 +68,7 @@ fn set_members(capacity: u64, words: &[u64], out: &mut [u64]) -> u64
 }
 
 fn build(
+    kind: u64,
     gamma: f64,
     ids: &[u64],
     words: &mut [u64],
@@ -77,9 +78,9 @@ fn build(
     out: &mut [u64],
 ) -> u64
     ensures { λ r. ⌜ seen r (flatBuilt (stores (now (words .exit)) (now (samples .exit)) (now (collide .exit)) (now (rest .exit))) (now (out .exit)))
-        ≡ flatBuild gamma (now (ids .entry)) (stores (now (words .entry)) (now (samples .entry)) (now (collide .entry)) (now (rest .entry))) (now (out .entry)) ⌝ }
+        ≡ flatBuild kind gamma (now (ids .entry)) (stores (now (words .entry)) (now (samples .entry)) (now (collide .entry)) (now (rest .entry))) (now (out .entry)) ⌝ }
 {
-    host::shawltide_build(gamma, ids, words, samples, collide, rest, out)
+    host::shawltide_build(kind, gamma, ids, words, samples, collide, rest, out)
 }
 
 fn lookup(head: &[u64], words: &[u64], samples: &[u64], id: u64, place: &mut [u64]) -> u64

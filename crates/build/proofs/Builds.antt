@@ -16,13 +16,17 @@ use Rattle.laws.proofs.Cases.{both}
 use Rattle.laws.proofs.Parts.{filled-whole}
 use Rattle.refusal.specs.Answers.{made, refused, check}
 use Rattle.refusal.specs.declared.Refusal.{Refusal}
-use Rattle.refusal.specs.declared.Refusal.the-variants.{GammaTooSmall, GammaTooLarge, TooManyIds, ShortWorkStore}
+use Rattle.refusal.specs.declared.Refusal.the-variants.{GammaTooSmall, GammaTooLarge, TooManyIds, ShortWorkStore, UnknownKind}
 use Rattle.laws.specs.Stores.{fronted, zeros}
 use Rattle.rule.specs.Rule.{built, run}
 use Rattle.sizes.specs.Gamma.{aboveMin, aboveMax, Allowed}
 use Rattle.sizes.specs.Sizes.{sizeFor}
 use Rattle.run.specs.Stores.{Stores, stores}
 use Rattle.build.specs.Build.{buildAfter, buildChecks, ended, buildCall}
+use Rattle.mixer.specs.Kinds.{kindOf}
+use Rattle.mixer.specs.declared.Kind.{Kind}
+use Rattle.mixer.specs.declared.KindOf.the-variants.{Known, Unknown}
+use Rattle.mixer.proofs.KindNumbers.{known-number}
 use Rattle.head.specs.Index.{noHead, ruleOf, roomOf}
 use Rattle.run.specs.Run.{runOf, Begun, Ran}
 use Rattle.build.specs.Ending.{prepared, afterRun, RunRefused}
@@ -103,10 +107,14 @@ passed gamma n collide rest e =
     }
 
 module _ (gamma : Float) (ids : List ℕ) (s : Stores) where
-  pub build-refused : {why : Refusal} → Refused why ≡ buildChecks gamma (length ids) (length (s .collide)) (length (s .rest))
-      → refused (buildAfter noHead s) why ≡ buildCall gamma ids s
+  pub build-unknown : (number : ℕ) → kindOf number ≡ Unknown → refused (buildAfter noHead s) UnknownKind ≡ buildCall number gamma ids s
   unfolding buildCall
-  build-refused e = rw (← e)
+  build-unknown number e = rw e
+
+  pub build-refused : (number : ℕ) {kind : Kind} {why : Refusal} → kindOf number ≡ Known kind
+      → Refused why ≡ buildChecks gamma (length ids) (length (s .collide)) (length (s .rest)) → refused (buildAfter noHead s) why ≡ buildCall number gamma ids s
+  unfolding buildCall
+  build-refused number known e = rw (known, ← e)
 
   module _ (p : Passed gamma (length ids) (length (s .collide)) (length (s .rest))) where
     front-long : length (fronted ids (s .rest)) ≡ length (s .rest)
@@ -127,42 +135,45 @@ module _ (gamma : Float) (ids : List ℕ) (s : Stores) where
       clear-collide = rw length-replicate;
     }
 
-    -- what the run leaves, with the rest store cleared, is what a build leaves
-    build-ended : buildChecks gamma (length ids) (length (s .collide)) (length (s .rest)) ≡ Done
-        → (end : Run) {sizes : List ℕ} {t : Stores} → length (t .words) ≡ length (s .words) → length (t .samples) ≡ length (s .samples)
-        → Ran (ruleOf gamma) (take (length ids) (fronted ids (s .rest))) (prepared ids s) end sizes t
-        → afterRun end (length ids) sizes (stores (t .words) (t .samples) (t .collide) (zeros (length (s .rest)))) ≡ buildCall gamma ids s
-    unfolding buildCall
-    build-ended done end {sizes} {t} lw ls r =
-        rw (done, ← ran) (go end refl)
-      where
-        long : (n : ℕ) → length (zeros n) ≡ n
-        long n = length-replicate n 0
+    -- by the number of a kind
+    module _ (number : ℕ) {kind : Kind} (known : kindOf number ≡ Known kind) where
+      -- what the run leaves, with the rest store cleared, is what a build leaves
+      build-ended : buildChecks gamma (length ids) (length (s .collide)) (length (s .rest)) ≡ Done
+          → (end : Run) {sizes : List ℕ} {t : Stores} → length (t .words) ≡ length (s .words) → length (t .samples) ≡ length (s .samples)
+          → Ran (ruleOf kind gamma) (take (length ids) (fronted ids (s .rest))) (prepared ids s) end sizes t
+          → afterRun end number (length ids) sizes (stores (t .words) (t .samples) (t .collide) (zeros (length (s .rest)))) ≡ buildCall number gamma ids s
+      unfolding buildCall
+      build-ended done end {sizes} {t} lw ls r =
+          rw (known, done, ← ran) (go end refl)
+        where
+          long : (n : ℕ) → length (zeros n) ≡ n
+          long n = length-replicate n 0
 
-        ran : runOf end ≡ run (ruleOf gamma) (roomOf (length (s .words)) (length (s .samples))) ids levelLimit
-        ran = rw (long (length (s .words)), long (length (s .samples)), front-ids) at (r .outcome)
+          ran : runOf end ≡ run (ruleOf kind gamma) (roomOf (length (s .words)) (length (s .samples))) ids levelLimit
+          ran = rw (long (length (s .words)), long (length (s .samples)), front-ids) at (r .outcome)
 
-        clear : t .collide ≡ zeros (length (s .collide))
-        clear = rw (long (length (s .collide))) at (r .collide-is)
+          clear : t .collide ≡ zeros (length (s .collide))
+          clear = rw (long (length (s .collide))) at (r .collide-is)
 
-        go : (e : Run) → end ≡ e
-            → afterRun e (length ids) sizes (stores (t .words) (t .samples) (t .collide) (zeros (length (s .rest)))) ≡ ended gamma ids s (runOf e)
-        go (R.Built n) q =
-            let b : runOf end ≡ built n = ap runOf q in
-            rw (
-              rw front-ids at (r .sizes-are n b),
-              rw (long (length (s .words)), front-ids) at (r .words-are n b),
-              rw (long (length (s .samples)), front-ids) at (r .samples-are n b),
-              clear,
-            )
-        go (R.NoRoom i) q = rw (lw, ls, clear)
-        go (R.IdsLeft n) q = rw (lw, ls, clear)
+          go : (e : Run) → end ≡ e
+              → afterRun e number (length ids) sizes (stores (t .words) (t .samples) (t .collide) (zeros (length (s .rest)))) ≡ ended kind gamma ids s (runOf e)
+          go (R.Built n) q =
+              let b : runOf end ≡ built n = ap runOf q in
+              rw (
+                known-number number _ known,
+                rw front-ids at (r .sizes-are n b),
+                rw (long (length (s .words)), front-ids) at (r .words-are n b),
+                rw (long (length (s .samples)), front-ids) at (r .samples-are n b),
+                clear,
+              )
+          go (R.NoRoom i) q = rw (lw, ls, clear)
+          go (R.IdsLeft n) q = rw (lw, ls, clear)
 
-    pub build-ends : buildChecks gamma (length ids) (length (s .collide)) (length (s .rest)) ≡ Done → {s₁ : Stores} → s₁ ≡ prepared ids s
-        → (end : Run) {sizes : List ℕ} {t : Stores} → length (t .words) ≡ length (s .words) → length (t .samples) ≡ length (s .samples)
-        → Ran (ruleOf gamma) (take (length ids) (s₁ .rest)) s₁ end sizes t → length (t .rest) ≡ length (s .rest)
-        → {rest′ : List ℕ} → rest′ ≡ replicate (length (t .rest)) 0 ++ drop (length (t .rest)) (t .rest)
-        → afterRun end (length ids) sizes (stores (t .words) (t .samples) (t .collide) rest′) ≡ buildCall gamma ids s
-    build-ends done e end {sizes} {t} lw ls r lr f =
-        rw (f ∙ filled-whole (t .rest) 0, lr)
-        (build-ended done end lw ls (subst (λ (s₁ : Stores). Ran (ruleOf gamma) (take (length ids) (s₁ .rest)) s₁ end sizes t) e r))
+      pub build-ends : buildChecks gamma (length ids) (length (s .collide)) (length (s .rest)) ≡ Done → {s₁ : Stores} → s₁ ≡ prepared ids s
+          → (end : Run) {sizes : List ℕ} {t : Stores} → length (t .words) ≡ length (s .words) → length (t .samples) ≡ length (s .samples)
+          → Ran (ruleOf kind gamma) (take (length ids) (s₁ .rest)) s₁ end sizes t → length (t .rest) ≡ length (s .rest)
+          → {rest′ : List ℕ} → rest′ ≡ replicate (length (t .rest)) 0 ++ drop (length (t .rest)) (t .rest)
+          → afterRun end number (length ids) sizes (stores (t .words) (t .samples) (t .collide) rest′) ≡ buildCall number gamma ids s
+      build-ends done e end {sizes} {t} lw ls r lr f =
+          rw (f ∙ filled-whole (t .rest) 0, lr)
+          (build-ended done end lw ls (subst (λ (s₁ : Stores). Ran (ruleOf kind gamma) (take (length ids) (s₁ .rest)) s₁ end sizes t) e r))

@@ -16,6 +16,9 @@ use Rattle.refusal.specs.declared.Refusal.the-variants.{GammaTooSmall, GammaToo
 use Rattle.rule.specs.Rule.{RunEnd, built, noRoom, idsLeft, run}
 use Rattle.sizes.specs.Gamma.{aboveMin, aboveMax}
 use Rattle.sizes.specs.Sizes.{sizeFor}
+use Rattle.mixer.specs.Kinds.{kindOf}
+use Rattle.head.specs.KindCheck.{checkKind}
+use Rattle.mixer.specs.declared.Kind.{Kind}
 use Rattle.run.specs.Stores.{Stores, stores}
 use Rattle.head.specs.Index.{ruleOf, roomOf, indexWords, indexSamples, indexHead, noHead}
 use Rattle.head.specs.declared.Head.{Head}
@@ -57,22 +60,25 @@ abbrev pub refusedRun : Refusal → Stores → BuildEnd
 refusedRun why s = refused (buildAfter noHead (cleared s)) why
 
 -- what the run's end leaves: the index, with 0 past it and in the work stores; or the refusal that gives the level, or how many ids remain
-abbrev pub ended : Float → List ℕ → Stores → RunEnd → BuildEnd
-ended gamma ids s (built n) =
-    answered 0 (buildAfter (indexHead (ruleOf gamma) ids n) (stores
-    (filled (indexWords (ruleOf gamma) ids n) (length (s .words)))
-    (filled (indexSamples (ruleOf gamma) ids n) (length (s .samples)))
+abbrev pub ended : Kind → Float → List ℕ → Stores → RunEnd → BuildEnd
+ended kind gamma ids s (built n) =
+    answered 0 (buildAfter (indexHead (ruleOf kind gamma) ids kind n) (stores
+    (filled (indexWords (ruleOf kind gamma) ids n) (length (s .words)))
+    (filled (indexSamples (ruleOf kind gamma) ids n) (length (s .samples)))
     (zeros (length (s .collide)))
     (zeros (length (s .rest)))))
-ended gamma ids s (noRoom i) = refusedRun (NoRoomForLevel i) s
-ended gamma ids s (idsLeft n) = refusedRun (IdsRemain n) s
+ended kind gamma ids s (noRoom i) = refusedRun (NoRoomForLevel i) s
+ended kind gamma ids s (idsLeft n) = refusedRun (IdsRemain n) s
 
 -- ---- the call
 
--- A build of the ids in the stores: the checks, which leave the stores as they were, then the run.
-abbrev pub afterChecks : Made → Float → List ℕ → Stores → BuildEnd
-afterChecks (Refused why) gamma ids s = refused (buildAfter noHead s) why
-afterChecks Done gamma ids s = ended gamma ids s (run (ruleOf gamma) (roomOf (length (s .words)) (length (s .samples))) ids levelLimit)
+-- what comes after the checks of a known kind: where they refuse, a head of 0 and the stores as they were, and else the run
+abbrev pub afterChecks : Made → Kind → Float → List ℕ → Stores → BuildEnd
+afterChecks (Refused why) kind gamma ids s = refused (buildAfter noHead s) why
+afterChecks Done kind gamma ids s = ended kind gamma ids s (run (ruleOf kind gamma) (roomOf (length (s .words)) (length (s .samples))) ids levelLimit)
 
-unfoldable pub buildCall : Float → List ℕ → Stores → BuildEnd
-buildCall gamma ids s = afterChecks (buildChecks gamma (length ids) (length (s .collide)) (length (s .rest))) gamma ids s
+-- A build of the ids in the stores, by the number of its kind: the checks, that of the kind first, which leave the stores as they were, then the run.
+unfoldable pub buildCall : ℕ → Float → List ℕ → Stores → BuildEnd
+buildCall number gamma ids s =
+    checkKind (kindOf number) (refused (buildAfter noHead s)) λ kind.
+    afterChecks (buildChecks gamma (length ids) (length (s .collide)) (length (s .rest))) kind gamma ids s

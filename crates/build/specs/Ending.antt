@@ -31,8 +31,8 @@ pub record RunRefused (why : Refusal) (words samples : List ℕ) (outcome : Made
 abbrev pub clearedIndex : Stores → Stores
 clearedIndex s = stores (zeros (length (s .words))) (zeros (length (s .samples))) (s .collide) (s .rest)
 
--- what a run over so many ids leaves of the stores that it ended with
-abbrev pub afterRun : Run → ℕ → List ℕ → Stores → BuildEnd
-afterRun (R.Built n) count sizes s = answered 0 (buildAfter (record { count = count; levels = n; sizes = sizes }) s)
-afterRun (R.NoRoom i) count sizes s = refused (buildAfter noHead (clearedIndex s)) (NoRoomForLevel i)
-afterRun (R.IdsLeft n) count sizes s = refused (buildAfter noHead (clearedIndex s)) (IdsRemain n)
+-- what a run by the kind of this number, over so many ids, leaves of the stores that it ended with
+abbrev pub afterRun : Run → ℕ → ℕ → List ℕ → Stores → BuildEnd
+afterRun (R.Built n) number count sizes s = answered 0 (buildAfter (record { kind = number; count = count; levels = n; sizes = sizes }) s)
+afterRun (R.NoRoom i) number count sizes s = refused (buildAfter noHead (clearedIndex s)) (NoRoomForLevel i)
+afterRun (R.IdsLeft n) number count sizes s = refused (buildAfter noHead (clearedIndex s)) (IdsRemain n)

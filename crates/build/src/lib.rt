@@ -12,6 +12,8 @@ use bounds::MAX_IDS;
 use head::Head;
 use head::Headed;
 use head::refused;
+use mixer::KindOf;
+use mixer::kind_of;
 use refusal::Made;
 use refusal::Refusal;
 use run::Run;
@@ -19,8 +21,9 @@ use run::build_levels;
 use words::fill;
 use words::u64s;
 
-// Builds an index of the ids in the word and sample stores. The collide and rest stores are for its work.
+// Builds an index of the ids, by a kind of hash, in the word and sample stores. The collide and rest stores are for its work.
 pub fn build(
+    kind: u64,
     gamma: f64,
     ids: &[u64],
     words: &mut [u64],
@@ -29,8 +32,11 @@ pub fn build(
     rest: &mut [u64],
 ) -> Headed
     ensures { λ r. ⌜ builtOf (r .outcome) (r .head) (stores (now (words .exit)) (now (samples .exit)) (now (collide .exit)) (now (rest .exit)))
-        ≡ buildCall gamma (now (ids .entry)) (stores (now (words .entry)) (now (samples .entry)) (now (collide .entry)) (now (rest .entry))) ⌝ }
+        ≡ buildCall kind gamma (now (ids .entry)) (stores (now (words .entry)) (now (samples .entry)) (now (collide .entry)) (now (rest .entry))) ⌝ }
 {
+    let KindOf::Known(known) = kind_of(kind) else {
+        return refused(Refusal::UnknownKind);
+    };
     let checked = check(
         gamma,
         ids.len() as u64,
@@ -42,9 +48,18 @@ pub fn build(
     }
     begin(ids, words, samples, collide, rest);
     let mut sizes = [0; HEAD_SIZES];
-    let run = build_levels(gamma, ids.len(), &mut sizes, words, samples, collide, rest);
+    let run = build_levels(
+        known,
+        gamma,
+        ids.len(),
+        &mut sizes,
+        words,
+        samples,
+        collide,
+        rest,
+    );
     fill(rest, rest.len(), 0);
-    end(run, ids.len() as u64, sizes, words, samples)
+    end(run, kind, ids.len() as u64, sizes, words, samples)
 }
 
 // The checks 1 to 4, of so many ids and of work stores of so many places.
@@ -94,18 +109,20 @@ fn copy(ids: &[u64], rest: &mut [u64])
 // What a run answers: the head of the index, or a refusal.
 fn end(
     run: Run,
+    kind: u64,
     ids: u64,
     sizes: [u64; HEAD_SIZES],
     words: &mut [u64],
     samples: &mut [u64],
 ) -> Headed
     ensures { λ r. ⌜ ((collide rest : List ℕ) → builtOf (r .outcome) (r .head) (stores (now (words .exit)) (now (samples .exit)) collide rest)
-        ≡ afterRun run ids sizes (stores (now (words .entry)) (now (samples .entry)) collide rest)) ⌝ }
+        ≡ afterRun run kind ids sizes (stores (now (words .entry)) (now (samples .entry)) collide rest)) ⌝ }
 {
     match run {
         Run::Built(levels) => Headed {
             outcome: Made::Done,
             head: Head {
+                kind,
                 count: ids,
                 levels,
                 sizes,

@@ -9,6 +9,7 @@ use lists::line::part;
 use lists::line::past;
 use lists::real::real;
 use lookup_cases::HEAD;
+use lookup_cases::PLAIN;
 use lookup_cases::are_found;
 
 // No line has more ids.
@@ -52,7 +53,7 @@ fn build_in(
     out: &mut [u64],
 ) -> bool {
     let gamma = real(number(line, 0));
-    let answer = shawltide_build(gamma, ids(line), words, samples, collide, rest, out);
+    let answer = shawltide_build(PLAIN, gamma, ids(line), words, samples, collide, rest, out);
     is_built(count, line, answer, out, words, samples, collide, rest)
 }
 
@@ -115,11 +116,12 @@ fn is_index(count: usize, line: &[u64], out: &[u64], words: &[u64], samples: &[u
         && are_rows(count, line, rows_at, head, words, samples)
 }
 
-// Whether a head has the id count and the level count of the line, and the level sizes that stand at this place.
+// Whether a head has the plain kind, the id count and the level count of the line, and the level sizes that stand at this place.
 fn is_head(line: &[u64], head: &[u64], at: usize) -> bool {
-    number(head, 0) == number(line, 1)
-        && number(head, 1) == number(line, 2)
-        && is_just(past(head, 2), part(line, at, many(line, 2)))
+    number(head, 0) == PLAIN
+        && number(head, 1) == number(line, 1)
+        && number(head, 2) == number(line, 2)
+        && is_just(past(head, 3), part(line, at, many(line, 2)))
 }
 
 // Whether the lookups of the line give what it says from this place on: of the ids their rows, and of the ids looked up the answers.

@@ -18,24 +18,25 @@ const SAMPLES: usize = 100;
 
 // The build of two ids at most in these words and samples, for the lines that go on with it.
 pub fn small(gamma: f64, ids: &[u64], words: &mut [u64], samples: &mut [u64]) -> Headed {
-    build::build(gamma, ids, words, samples, &mut [7; 4], &mut [7; 2])
+    build::build(0, gamma, ids, words, samples, &mut [7; 4], &mut [7; 2])
 }
 
 pub fn accepted() {
-    build(b"no ids", 2.0, 0, 4, 1, 4, 0);
-    build(b"one id", 2.0, 1, 4, 1, 4, 1);
-    build(b"one id, in longer stores", 2.0, 1, 8, 4, 8, 4);
+    build(b"no ids", 0, 2.0, 0, 4, 1, 4, 0);
+    build(b"one id", 0, 2.0, 1, 4, 1, 4, 1);
+    build(b"one id, in longer stores", 0, 2.0, 1, 8, 4, 8, 4);
 }
 
 pub fn refused() {
-    build(b"gamma 1.01", 1.01, 1, 4, 1, 4, 1);
-    build(b"gamma above 16", 16.000000000000004, 1, 4, 1, 4, 1);
-    build(b"a rest store of no place", 2.0, 1, 4, 1, 4, 0);
-    build(b"a collide store of 3 words", 2.0, 1, 4, 1, 3, 1);
-    build(b"3 words", 2.0, 1, 3, 1, 4, 1);
-    build(b"no sample", 2.0, 1, 4, 0, 4, 1);
+    build(b"gamma 1.01", 0, 1.01, 1, 4, 1, 4, 1);
+    build(b"gamma above 16", 0, 16.000000000000004, 1, 4, 1, 4, 1);
+    build(b"a rest store of no place", 0, 2.0, 1, 4, 1, 4, 0);
+    build(b"a collide store of 3 words", 0, 2.0, 1, 4, 1, 3, 1);
+    build(b"3 words", 0, 2.0, 1, 3, 1, 4, 1);
+    build(b"no sample", 0, 2.0, 1, 4, 0, 4, 1);
     build(
         b"an id twice, 400 words, 100 samples",
+        0,
         2.0,
         2,
         400,
@@ -43,13 +44,14 @@ pub fn refused() {
         4,
         2,
     );
-    build(b"an id twice, 399 words", 2.0, 2, 399, 100, 4, 2);
-    build(b"an id twice, 99 samples", 2.0, 2, 400, 99, 4, 2);
+    build(b"an id twice, 399 words", 0, 2.0, 2, 399, 100, 4, 2);
+    build(b"an id twice, 99 samples", 0, 2.0, 2, 400, 99, 4, 2);
 }
 
-// A build of so many ids, in stores of so many places.
-fn build(
+// A line: a build of so many ids by a kind of hash, in stores of so many places.
+pub fn build(
     name: &[u8],
+    kind: u64,
     gamma: f64,
     ids: usize,
     words: usize,
@@ -60,6 +62,7 @@ fn build(
     text(b"build, ");
     text(name);
     build_in(
+        kind,
         gamma,
         first(&IDS, ids),
         first_mut(&mut [7; WORDS], words),
@@ -70,6 +73,7 @@ fn build(
 }
 
 fn build_in(
+    kind: u64,
     gamma: f64,
     ids: &[u64],
     words: &mut [u64],
@@ -77,7 +81,7 @@ fn build_in(
     collide: &mut [u64],
     rest: &mut [u64],
 ) {
-    answer(build::build(gamma, ids, words, samples, collide, rest));
+    answer(build::build(kind, gamma, ids, words, samples, collide, rest));
     left(words, samples, collide, rest);
 }
 
@@ -87,7 +91,13 @@ fn answer(built: Headed) {
     let head = built.head;
     contents(
         b"head",
-        &[head.count, head.levels, head.sizes[0], head.sizes[1]],
+        &[
+            head.kind,
+            head.count,
+            head.levels,
+            head.sizes[0],
+            head.sizes[1],
+        ],
     );
 }
 

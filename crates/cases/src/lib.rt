@@ -67,7 +67,7 @@ fn is_mixed(count: usize, line: &[u64]) -> bool {
 }
 
 fn is_hash(count: usize, line: &[u64]) -> bool {
-    let hash = mixer::hash_with_seed(number(line, 0), number(line, 1));
+    let hash = mixer::hash_with_seed(mixer::Kind::Plain, number(line, 0), number(line, 1));
     count == 3 && hash == number(line, 2)
 }
 
@@ -82,7 +82,7 @@ fn is_position(count: usize, line: &[u64]) -> bool {
     if size > bounds::MAX_BITS {
         return false;
     }
-    let position = mixer::hashmod(number(line, 0), number(line, 2), size);
+    let position = mixer::hashmod(mixer::Kind::Plain, number(line, 0), number(line, 2), size);
     count == 4 && position == number(line, 3)
 }
 

@@ -57,6 +57,7 @@ fn with(head: Head, count: u64, levels: u64, size: u64) -> Head {
     let mut sizes = head.sizes;
     sizes[0] = size;
     Head {
+        kind: head.kind,
         count,
         levels,
         sizes,

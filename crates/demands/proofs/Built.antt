@@ -19,6 +19,8 @@ use Rattle.laws.proofs.Chains.{length-chain, chain-at, chain-same}
 use Rattle.laws.proofs.Cases.{Tri, lt, eq, gt, tri}
 use Rattle.laws.proofs.Packing.{packed-has}
 use Rattle.laws.proofs.Sums.{sum-same, sum-ones}
+use Rattle.mixer.specs.declared.Kind.{Kind}
+use Rattle.mixer.proofs.KindNumbers.{number-known}
 use Rattle.mixer.specs.Position.{position}
 use Rattle.laws.specs.Stores.{filled}
 use Rattle.head.specs.Index.{ruleOf, roomOf, wordsAt, samplesAt, indexWords, indexSamples, indexSizes, indexHead}
@@ -43,9 +45,9 @@ use Rattle.sizes.proofs.Sizes.{size-least, size-most, size-mono}
 
 -- ---- the levels of an index's rule
 
-pub each-level : (gamma : Float) (ids : List ℕ) → EachLevel gamma ids
-each-level gamma ids =
-    let l = levels (ruleOf gamma) ids (rule-sound gamma) in
+pub each-level : (kind : Kind) (gamma : Float) (ids : List ℕ) → EachLevel kind gamma ids
+each-level kind gamma ids =
+    let l = levels (ruleOf kind gamma) ids (rule-sound kind gamma) in
     record { balance = l .balance; no-rise = l .no-rise (λ m n h k. size-mono gamma m n h) }
 
 -- ---- one of several lists that lie one after another in a store
@@ -86,24 +88,24 @@ run-done rule room ids n ran =
 
 -- ---- the index of n levels that a build leaves
 
-abbrev pub builtHead : Float → List ℕ → ℕ → Head
-builtHead gamma ids n = indexHead (ruleOf gamma) ids n
+abbrev pub builtHead : Kind → Float → List ℕ → ℕ → Head
+builtHead kind gamma ids n = indexHead (ruleOf kind gamma) ids kind n
 
-abbrev pub wordsIn : Float → List ℕ → ℕ → ℕ → List ℕ
-wordsIn gamma ids n room = filled (indexWords (ruleOf gamma) ids n) room
+abbrev pub wordsIn : Kind → Float → List ℕ → ℕ → ℕ → List ℕ
+wordsIn kind gamma ids n room = filled (indexWords (ruleOf kind gamma) ids n) room
 
-abbrev pub samplesIn : Float → List ℕ → ℕ → ℕ → List ℕ
-samplesIn gamma ids n room = filled (indexSamples (ruleOf gamma) ids n) room
+abbrev pub samplesIn : Kind → Float → List ℕ → ℕ → ℕ → List ℕ
+samplesIn kind gamma ids n room = filled (indexSamples (ruleOf kind gamma) ids n) room
 
 -- a lookup's answer, where the level rule finds a place or none
 abbrev pub asAnswer : Option RowPlace → Answer
 asAnswer none = nothing
 asAnswer (some u) = found u
 
-module _ (gamma : Float) (ids : List ℕ) (wordRoom sampleRoom n : ℕ) where
+module _ (kind : Kind) (gamma : Float) (ids : List ℕ) (wordRoom sampleRoom n : ℕ) where
   -- by the rule: the size and the bits of each level
   abbrev rule : Rule
-  rule = ruleOf gamma
+  rule = ruleOf kind gamma
 
   abbrev Span : ℕ → ℕ
   Span = span rule ids
@@ -113,13 +115,13 @@ module _ (gamma : Float) (ids : List ℕ) (wordRoom sampleRoom n : ℕ) where
 
   -- by the head and the stores
   abbrev Words : List ℕ
-  Words = wordsIn gamma ids n wordRoom
+  Words = wordsIn kind gamma ids n wordRoom
 
   abbrev Samples : List ℕ
-  Samples = samplesIn gamma ids n sampleRoom
+  Samples = samplesIn kind gamma ids n sampleRoom
 
   abbrev Size : ℕ → ℕ
-  Size = sizeAt (builtHead gamma ids n .sizes)
+  Size = sizeAt (builtHead kind gamma ids n .sizes)
 
   abbrev Read : ℕ → ℕ → Bool
   Read i = has (levelWords Size Words i)
@@ -155,15 +157,15 @@ module _ (gamma : Float) (ids : List ℕ) (wordRoom sampleRoom n : ℕ) where
         ap (λ (ws : List ℕ). has ws p) (words-are i h) ∙ packed-has (wordsFor (Span i)) (Bits i) p (omega (arith, size-is i h));
   }
 
-  pos-lt : (i x : ℕ) → i < n → position i (Size i) x < Size i
-  pos-lt i x h = rw (size-is i h) (spot-lt rule ids (rule-sound gamma) i x)
+  pos-lt : (i x : ℕ) → i < n → position kind i (Size i) x < Size i
+  pos-lt i x h = rw (size-is i h) (spot-lt rule ids (rule-sound kind gamma) i x)
 
   -- ---- samples from the words
 
   bit-past : (i q : ℕ) → Span i ≤ q → Bits i q ≡ false
-  bit-past i q h = unset-past (rule .pos i (Span i)) (remaining rule ids i) (Span i) (spot-lt rule ids (rule-sound gamma) i) q h
+  bit-past i q h = unset-past (rule .pos i (Span i)) (remaining rule ids i) (Span i) (spot-lt rule ids (rule-sound kind gamma) i) q h
 
-  set-before : (i : ℕ) → i ≤ n → setBefore (builtHead gamma ids n) Words i ≡ base Span Bits i
+  set-before : (i : ℕ) → i ≤ n → setBefore (builtHead kind gamma ids n) Words i ≡ base Span Bits i
   set-before zero h = refl
   set-before (suc i) h =
       let m : ℕ = wordsFor (Span i) in
@@ -181,23 +183,23 @@ module _ (gamma : Float) (ids : List ℕ) (wordRoom sampleRoom n : ℕ) where
   set-here : (i : ℕ) → i < n → setBits (levelWords Size Words i) ≡ ones Span Bits i
   set-here i h = omega (arith, set-before i (omega arith), set-before (suc i) h)
 
-  pub levels-left : EachLevelLeft gamma ids (builtHead gamma ids n) (wordsIn gamma ids n wordRoom)
+  pub levels-left : EachLevelLeft kind gamma ids (builtHead kind gamma ids n) (wordsIn kind gamma ids n wordRoom)
   levels-left = record {
-    balance = λ i h. omega (arith, set-here i h, each-level gamma ids .balance i);
-    no-rise = λ i j h l. omega (arith, size-is i (omega arith), size-is j l, each-level gamma ids .no-rise i j h);
+    balance = λ i h. omega (arith, set-here i h, each-level kind gamma ids .balance i);
+    no-rise = λ i j h l. omega (arith, size-is i (omega arith), size-is j l, each-level kind gamma ids .no-rise i j h);
   }
 
-  samples-by : (i : ℕ) → i < n → samplesAt rule ids i ≡ samplesBy (builtHead gamma ids n) Words i
+  samples-by : (i : ℕ) → i < n → samplesAt rule ids i ≡ samplesBy (builtHead kind gamma ids n) Words i
   samples-by i h = sym (ap₂ (λ (b : ℕ) (ws : List ℕ). samplesOf b ws) (set-before i (omega arith)) (words-are i h))
 
-  module _ (done : Finished (ruleOf gamma) (roomOf wordRoom sampleRoom) ids n) where
+  module _ (done : Finished (ruleOf kind gamma) (roomOf wordRoom sampleRoom) ids n) where
     words-long : length Words ≡ wordRoom
     words-long = length-filled (indexWords rule ids n) wordRoom (rw (length-words rule ids n) (done .in-words))
 
     samples-long : length Samples ≡ sampleRoom
     samples-long = length-filled (indexSamples rule ids n) sampleRoom (rw (length-samples-to rule ids n) (done .in-samples))
 
-    pub from-words : FromWords (builtHead gamma ids n) (wordsIn gamma ids n wordRoom) (samplesIn gamma ids n sampleRoom)
+    pub from-words : FromWords (builtHead kind gamma ids n) (wordsIn kind gamma ids n wordRoom) (samplesIn kind gamma ids n sampleRoom)
     unfolding indexSamples
     from-words = record {
       level = λ i h. samples-are i h ∙ samples-by i h;
@@ -211,9 +213,9 @@ module _ (gamma : Float) (ids : List ℕ) (wordRoom sampleRoom n : ℕ) where
       unfolding remaining
       fewer i = remaining-fewer rule ids 0 i (omega arith)
 
-      pub index-fits : fit (length ids) n (builtHead gamma ids n .sizes) (length (wordsIn gamma ids n wordRoom)) (length (samplesIn gamma ids n sampleRoom)) ≡ true
+      pub index-fits : fit (length ids) n (builtHead kind gamma ids n .sizes) (length (wordsIn kind gamma ids n wordRoom)) (length (samplesIn kind gamma ids n sampleRoom)) ≡ true
       index-fits =
-          rw (words-long, samples-long) (fit-is (length ids) n (builtHead gamma ids n .sizes) wordRoom sampleRoom (record {
+          rw (words-long, samples-long) (fit-is (length ids) n (builtHead kind gamma ids n .sizes) wordRoom sampleRoom (record {
             bounds = record {
               some-level = done .some-level;
               few-levels = omega (arith, done .few-levels);
@@ -231,14 +233,14 @@ module _ (gamma : Float) (ids : List ℕ) (wordRoom sampleRoom n : ℕ) where
       base-is = base-agrees Size Span Read Bits n same-levels
 
       all-set : base Size Read n ≡ length ids
-      all-set = omega (arith, base-is n (omega arith), all-accounted rule ids (rule-sound gamma) n, ap length (done .none-left))
+      all-set = omega (arith, base-is n (omega arith), all-accounted rule ids (rule-sound kind gamma) n, ap length (done .none-left))
 
       -- the first level that has the bit of x gives the row that a reader has by the sizes and bits alone
-      level-is : (x i : ℕ) → first position Size Read n 0 x ≡ some i
-          → levelAnswer position (length ids) Size Words Samples x (some i) ≡ asAnswer (place position Size Read x (some i))
+      level-is : (x i : ℕ) → first (position kind) Size Read n 0 x ≡ some i
+          → levelAnswer (position kind) (length ids) Size Words Samples x (some i) ≡ asAnswer (place (position kind) Size Read x (some i))
       level-is x i e =
-          let h : i < n = omega (arith, first-has position Size Read n 0 i x e .1) in
-          let p : ℕ = position i (Size i) x in
+          let h : i < n = omega (arith, first-has (position kind) Size Read n 0 i x e .1) in
+          let p : ℕ = position kind i (Size i) x in
           let ws : List ℕ = levelWords Size Words i in
           let ss : List ℕ = levelSamples Size Samples i in
           let before : ℕ = base Size Read i in
@@ -248,19 +250,19 @@ module _ (gamma : Float) (ids : List ℕ) (wordRoom sampleRoom n : ℕ) where
           let row-is : getD ss (p / sampleBits) 0 + onesFrom ws p ≡ rowAt Size Read i p
           = rw sampled (rank-by-sample before ws p (omega (arith, pos-lt i x h, size-is i h))) in
           let u : RowPlace = record { row = rowAt Size Read i p; level = i; position = p } in
-          let row-lt : u .row < base Size Read n = lookup-lt position Size Read n pos-lt x {u = u} (ap (place position Size Read x) e) in
+          let row-lt : u .row < base Size Read n = lookup-lt (position kind) Size Read n pos-lt x {u = u} (ap (place (position kind) Size Read x) e) in
           row-good (length ids) ws ss i p (omega (arith, all-set)) (omega (arith, all-set))
           ∙ ap (λ (k : ℕ). found (record { row = k; level = i; position = p })) row-is
 
       pub lookup-is : (x : ℕ)
-          → lookupCall (builtHead gamma ids n) (wordsIn gamma ids n wordRoom) (samplesIn gamma ids n sampleRoom) x ≡ asAnswer (find (ruleOf gamma) ids n x)
+          → lookupCall (builtHead kind gamma ids n) (wordsIn kind gamma ids n wordRoom) (samplesIn kind gamma ids n sampleRoom) x ≡ asAnswer (find (ruleOf kind gamma) ids n x)
       unfolding findIn
       lookup-is x =
-          sym (lookup-fit (builtHead gamma ids n) Words Samples x index-fits)
-          ∙ go (first position Size Read n 0 x) refl
-          ∙ ap asAnswer (lookup-agrees Size Span Read Bits n same-levels position pos-lt x)
+          sym (lookup-fit (builtHead kind gamma ids n) Words Samples x kind (number-known kind) index-fits)
+          ∙ go (first (position kind) Size Read n 0 x) refl
+          ∙ ap asAnswer (lookup-agrees Size Span Read Bits n same-levels (position kind) pos-lt x)
         where
-          go : (o : Option ℕ) → first position Size Read n 0 x ≡ o
-              → levelAnswer position (length ids) Size Words Samples x o ≡ asAnswer (place position Size Read x o)
+          go : (o : Option ℕ) → first (position kind) Size Read n 0 x ≡ o
+              → levelAnswer (position kind) (length ids) Size Words Samples x o ≡ asAnswer (place (position kind) Size Read x o)
           go none e = refl
           go (some i) e = level-is x i e

@@ -15,7 +15,7 @@ use lib.ListN.{length, getD}
 use lib.Seq.{ext-getD}
 use Rattle.refusal.specs.declared.Made.the-variants as M
 use Rattle.bounds.specs.Bounds.{maxIds}
-use Rattle.demands.specs.Demands.{roomIn, Lookups, listedAs, IndexRows, Indexed, Demand3}
+use Rattle.demands.specs.Demands.{buildBy, roomIn, Lookups, listedAs, IndexRows, Indexed, Demand3}
 use Rattle.demands.specs.Levels.{EachLevelLeft, samplesBy, FromWords}
 use Rattle.demands.proofs.Built.{Finished, run-done, builtHead, wordsIn, samplesIn, asAnswer, index-fits, lookup-is, levels-left, from-words}
 use Rattle.demands.proofs.Order.{rows-any-order, build-any-order}
@@ -26,7 +26,7 @@ use Rattle.laws.proofs.Chains.{chain-same, chain-at, length-chain}
 use Rattle.laws.proofs.Cases.{Tri, lt, eq, gt, tri, one-eq}
 use Rattle.laws.proofs.Counts.{same-length, length-sift, count-sift, count-at, only}
 use Rattle.laws.proofs.Sums.{sum-ones}
-use Rattle.build.specs.Build.{BuildEnd, builtOf, buildCall}
+use Rattle.build.specs.Build.{BuildEnd, builtOf}
 use Rattle.run.specs.Stores.{Stores}
 use Rattle.laws.specs.Stores.{filled}
 use Rattle.head.specs.Index.{ruleOf, roomOf}
@@ -42,6 +42,9 @@ use Rattle.rule.specs.Demand.{Perfect}
 use Rattle.rule.specs.Rule.{Rule, RowPlace, rowOf, find, row, rowList}
 use Rattle.rule.proofs.Reader.{row-found}
 use Rattle.rule.proofs.RowLaws.{perfect}
+use Rattle.mixer.specs.Kinds.{kindNumber}
+use Rattle.mixer.specs.declared.Kind.{Kind}
+use Rattle.mixer.proofs.KindNumbers.{number-known}
 use Rattle.sizes.specs.Gamma.{Allowed}
 
 -- ---- lists
@@ -115,29 +118,29 @@ module _ (rowFor : ℕ → Option ℕ) (ids list : List ℕ) (once : (x : ℕ) �
 
 -- ---- the index of n levels
 
-module _ (gamma : Float) (ids : List ℕ) (wordRoom sampleRoom n : ℕ) (done : Finished (ruleOf gamma) (roomOf wordRoom sampleRoom) ids n)
+module _ (kind : Kind) (gamma : Float) (ids : List ℕ) (wordRoom sampleRoom n : ℕ) (done : Finished (ruleOf kind gamma) (roomOf wordRoom sampleRoom) ids n)
     (allowed : Allowed gamma) (few : length ids ≤ maxIds) where
   abbrev rule : Rule
-  rule = ruleOf gamma
+  rule = ruleOf kind gamma
 
   -- the head and the stores, and the row list
   abbrev Top : Head
-  Top = builtHead gamma ids n
+  Top = builtHead kind gamma ids n
 
   abbrev Words : List ℕ
-  Words = wordsIn gamma ids n wordRoom
+  Words = wordsIn kind gamma ids n wordRoom
 
   abbrev Samples : List ℕ
-  Samples = samplesIn gamma ids n sampleRoom
+  Samples = samplesIn kind gamma ids n sampleRoom
 
   abbrev Rows : List ℕ
   Rows = rowList rule ids n
 
   hash : Perfect rule ids n
-  hash = perfect rule ids (rule-sound gamma) n (done .none-left)
+  hash = perfect rule ids (rule-sound kind gamma) n (done .none-left)
 
   look : (x : ℕ) → lookupCall Top Words Samples x ≡ asAnswer (find rule ids n x)
-  look x = lookup-is gamma ids wordRoom sampleRoom n done allowed few x
+  look x = lookup-is kind gamma ids wordRoom sampleRoom n done allowed few x
 
   -- a place that is found is the rule's, and its row too
   place-is : (x : ℕ) (u : RowPlace) → lookupCall Top Words Samples x ≡ found u → find rule ids n x ≡ some u
@@ -189,7 +192,7 @@ module _ (gamma : Float) (ids : List ℕ) (wordRoom sampleRoom n : ℕ) (done : 
       → rowsCall Top Words Samples ids rows marks ≡ listedAs Rows (length ids) rows marks
   unfolding rowsCall
   call rows marks p q =
-      rw (index-fits gamma ids wordRoom sampleRoom n done allowed few, le-leb (length ids) (length rows) p, le-leb (wordsFor (length ids)) (length marks) q)
+      rw (number-known kind, index-fits kind gamma ids wordRoom sampleRoom n done allowed few, le-leb (length ids) (length rows) p, le-leb (wordsFor (length ids)) (length marks) q)
       (ap (λ (f : ℕ → Option ℕ). rowsBy f (length ids) ids rows marks) (fun-ext row-rule)
       ∙ rows-are (row rule ids n) ids Rows once (hash .has-row) (hash .one-row) (hash .list-same) (hash .list-row) rows marks)
 
@@ -204,39 +207,42 @@ module _ (gamma : Float) (ids : List ℕ) (wordRoom sampleRoom n : ℕ) (done : 
 
 -- ---- of an accepted build
 
-module _ (gamma : Float) (ids : List ℕ) (s : Stores) where
-  indexed : buildCall gamma ids s .refusal ≡ 0 → Indexed ids (buildCall gamma ids s)
+module _ (kind : Kind) (gamma : Float) (ids : List ℕ) (s : Stores) where
+  indexed : buildBy kind gamma ids s .refusal ≡ 0 → Indexed ids (buildBy kind gamma ids s)
   indexed done =
-      let a = accepted gamma ids s done in
-      let d = run-done (ruleOf gamma) (roomIn s) ids (a .levels) (a .ran) in
+      let a = accepted kind gamma ids s done in
+      let d = run-done (ruleOf kind gamma) (roomIn s) ids (a .levels) (a .ran) in
       subst (Indexed ids) (sym (a .call-is)) (record {
         counted = refl;
-        lookups = lookups gamma ids (length (s .words)) (length (s .samples)) (a .levels) d (a .bounds .allowed) (a .bounds .few-ids);
-        rowList = rowList (ruleOf gamma) ids (a .levels);
-        listed = listing gamma ids (length (s .words)) (length (s .samples)) (a .levels) d (a .bounds .allowed) (a .bounds .few-ids);
+        lookups = lookups kind gamma ids (length (s .words)) (length (s .samples)) (a .levels) d (a .bounds .allowed) (a .bounds .few-ids);
+        rowList = rowList (ruleOf kind gamma) ids (a .levels);
+        listed = listing kind gamma ids (length (s .words)) (length (s .samples)) (a .levels) d (a .bounds .allowed) (a .bounds .few-ids);
       })
 
-  pub demand3 : Demand3 gamma ids s
-  demand3 = record { refused = λ b r. refusals gamma ids s r b; accepted = indexed; any-order = λ others e. build-any-order gamma e s }
+  kind-kept : buildBy kind gamma ids s .refusal ≡ 0 → buildBy kind gamma ids s .after .head .kind ≡ kindNumber kind
+  kind-kept done = ap (λ (x : BuildEnd). x .after .head .kind) (accepted kind gamma ids s done .call-is)
+
+  pub demand3 : Demand3 kind gamma ids s
+  demand3 = record { refused = λ b r. refusals kind gamma ids s r b; accepted = indexed; kind-kept = kind-kept; any-order = λ others e. build-any-order kind gamma e s }
 
   -- the same of what `build` returns where it is not refused, by its promise
-  pub returned : (head : Head) (after : Stores) → builtOf M.Done head after ≡ buildCall gamma ids s → Indexed ids (builtOf M.Done head after)
+  pub returned : (head : Head) (after : Stores) → builtOf M.Done head after ≡ buildBy kind gamma ids s → Indexed ids (builtOf M.Done head after)
   returned head after e = subst (Indexed ids) (sym e) (indexed (ap (λ (x : BuildEnd). x .refusal) (sym e)))
 
   -- The samples of an accepted build are those that its head and its words give.
-  pub samples-from-words : buildCall gamma ids s .refusal ≡ 0
-      → FromWords (buildCall gamma ids s .after .head) (buildCall gamma ids s .after .stores .words) (buildCall gamma ids s .after .stores .samples)
+  pub samples-from-words : buildBy kind gamma ids s .refusal ≡ 0
+      → FromWords (buildBy kind gamma ids s .after .head) (buildBy kind gamma ids s .after .stores .words) (buildBy kind gamma ids s .after .stores .samples)
   samples-from-words done =
-      let a = accepted gamma ids s done in
+      let a = accepted kind gamma ids s done in
       subst (λ (x : BuildEnd). FromWords (x .after .head) (x .after .stores .words) (x .after .stores .samples)) (sym (a .call-is))
-      (from-words gamma ids (length (s .words)) (length (s .samples)) (a .levels) (run-done (ruleOf gamma) (roomIn s) ids (a .levels) (a .ran)))
+      (from-words kind gamma ids (length (s .words)) (length (s .samples)) (a .levels) (run-done (ruleOf kind gamma) (roomIn s) ids (a .levels) (a .ran)))
 
   -- In each of its levels the ones in its words and the ids going on are as many as the ids that came in, and its sizes never rise.
-  pub levels-balance : buildCall gamma ids s .refusal ≡ 0 → EachLevelLeft gamma ids (buildCall gamma ids s .after .head) (buildCall gamma ids s .after .stores .words)
+  pub levels-balance : buildBy kind gamma ids s .refusal ≡ 0 → EachLevelLeft kind gamma ids (buildBy kind gamma ids s .after .head) (buildBy kind gamma ids s .after .stores .words)
   levels-balance done =
-      let a = accepted gamma ids s done in
-      subst (λ (x : BuildEnd). EachLevelLeft gamma ids (x .after .head) (x .after .stores .words)) (sym (a .call-is))
-      (levels-left gamma ids (length (s .words)) (length (s .samples)) (a .levels))
+      let a = accepted kind gamma ids s done in
+      subst (λ (x : BuildEnd). EachLevelLeft kind gamma ids (x .after .head) (x .after .stores .words)) (sym (a .call-is))
+      (levels-left kind gamma ids (length (s .words)) (length (s .samples)) (a .levels))
 
 -- so that there is one sample store of a given length for a head and its words
 pub samples-decided : (head : Head) (words ss ts : List ℕ) → FromWords head words ss → FromWords head words ts → length ss ≡ length ts → ss ≡ ts

@@ -6,6 +6,8 @@ use lib.Dec.{T, eqb}
 use lib.Ieee.{Float, binary64, ofBits, lt}
 use Rattle.laws.specs.Bits.{bitAt, has, packed, wordsFor}
 use Rattle.laws.specs.Tables.{all, equal}
+use Rattle.mixer.specs.Kinds.{kindOf}
+use Rattle.mixer.specs.declared.Kind.the-variants.{Plain}
 use Rattle.mixer.specs.Mixer.{mixed, hashed}
 use Rattle.mixer.specs.Position.{folded, scaled}
 use Rattle.ranks.specs.Ranks.{firstSamples, samplesOf, onesFrom}
@@ -19,7 +21,7 @@ use Rattle.demands.specs.Inputs.{oneAndHalf, two}
 
 -- the refusal number of a build of no ids at the gamma with these bits, where 0 is none
 abbrev gammaGives : ℕ → ℕ → Bool
-gammaGives bits number = eqb (buildCall (ofBits binary64 bits) [] (stores (zeros 4) (zeros 1) (zeros 4) []) .refusal) number
+gammaGives bits number = eqb (buildCall 0 (ofBits binary64 bits) [] (stores (zeros 4) (zeros 1) (zeros 4) []) .refusal) number
 
 -- so many bits take so many words and samples
 abbrev takes : ℕ → ℕ → ℕ → Bool
@@ -68,13 +70,13 @@ rows : T (all
     ∷ eqb (scaled 0x8000_0000 255) 127
     ∷ eqb (scaled 0xFFFF_FFFF 255) 254
     -- the mixer of id 3 at level 0 equals that of id 0 at level 1
-    ∷ eqb (hashed 0 3) (hashed 1 0)
+    ∷ eqb (hashed Plain 0 3) (hashed Plain 1 0)
     -- id 1 at level 32 equals id 0 at level 0
-    ∷ eqb (hashed 32 1) (hashed 0 0)
+    ∷ eqb (hashed Plain 32 1) (hashed Plain 0 0)
     -- bits 3, 64, 200 in one level have rows 0, 1, 2
     ∷ row 3 0
     ∷ row 64 1
     ∷ row 200 2
     ∷ []))
-unfolding buildCall buildChecks lt ofBits sizeFor wholeOf rounded runFrom remaining mixed rowAnswer onesFrom firstSamples packed has bitAt
+unfolding kindOf buildCall buildChecks lt ofBits sizeFor wholeOf rounded runFrom remaining mixed rowAnswer onesFrom firstSamples packed has bitAt
 rows = tt

@@ -6,6 +6,7 @@ use native.Mathlib.Nat.{sub-zero}
 use native.Mathlib.Omega.{arith}
 use lib.Ieee.{Float}
 use lib.ListN.{length}
+use Rattle.mixer.specs.declared.Kind.{Kind}
 use Rattle.bounds.specs.Bounds.{levelLimit}
 use Rattle.demands.specs.Demands.{roomIn}
 use Rattle.demands.specs.Rooms.{AtLeast, EndsAs, MoreRoom}
@@ -26,20 +27,20 @@ longer xs room more h k = sym (filled-more xs more (room - length xs) (omega ari
 longer-zeros : (room more : ℕ) → room ≤ more → zeros more ≡ filled (zeros room) more
 longer-zeros room more k = sym (filled-more [] more room (omega arith) ∙ ap zeros (sub-zero more))
 
-module _ (gamma : Float) (ids : List ℕ) (s t : Stores) (more : AtLeast s t) where
+module _ (kind : Kind) (gamma : Float) (ids : List ℕ) (s t : Stores) (more : AtLeast s t) where
   -- the run's outcome in s
   abbrev outcome : RunEnd
-  outcome = run (ruleOf gamma) (roomIn s) ids levelLimit
+  outcome = run (ruleOf kind gamma) (roomIn s) ids levelLimit
 
-  ended-as : (o : RunEnd) → outcome ≡ o → (ended gamma ids s o .refusal ≡ 5 → ⊥) → EndsAs t (ended gamma ids s o) (ended gamma ids t o)
+  ended-as : (o : RunEnd) → outcome ≡ o → (ended kind gamma ids s o .refusal ≡ 5 → ⊥) → EndsAs t (ended kind gamma ids s o) (ended kind gamma ids t o)
   ended-as (built n) e u =
-      let d = run-done (ruleOf gamma) (roomIn s) ids n e in
+      let d = run-done (ruleOf kind gamma) (roomIn s) ids n e in
       record {
         refusal = refl;
         value = refl;
         head = refl;
-        words = longer (indexWords (ruleOf gamma) ids n) _ _ (omega (arith, length-words (ruleOf gamma) ids n, d .in-words)) (more .words);
-        samples = longer (indexSamples (ruleOf gamma) ids n) _ _ (omega (arith, length-samples-to (ruleOf gamma) ids n, d .in-samples)) (more .samples);
+        words = longer (indexWords (ruleOf kind gamma) ids n) _ _ (omega (arith, length-words (ruleOf kind gamma) ids n, d .in-words)) (more .words);
+        samples = longer (indexSamples (ruleOf kind gamma) ids n) _ _ (omega (arith, length-samples-to (ruleOf kind gamma) ids n, d .in-samples)) (more .samples);
       }
   ended-as (noRoom i) e u = absurd (u refl)
   ended-as (idsLeft n) e u = record {
@@ -50,14 +51,14 @@ module _ (gamma : Float) (ids : List ℕ) (s t : Stores) (more : AtLeast s t) wh
     samples = longer-zeros _ _ (more .samples);
   }
 
-  same-run : ((i : ℕ) → outcome ≡ noRoom i → ⊥) → run (ruleOf gamma) (roomIn t) ids levelLimit ≡ outcome
-  same-run u = larger-same (ruleOf gamma) (roomIn s) ids (length (t .words)) (length (t .samples)) (more .words) (more .samples) levelLimit u
+  same-run : ((i : ℕ) → outcome ≡ noRoom i → ⊥) → run (ruleOf kind gamma) (roomIn t) ids levelLimit ≡ outcome
+  same-run u = larger-same (ruleOf kind gamma) (roomIn s) ids (length (t .words)) (length (t .samples)) (more .words) (more .samples) levelLimit u
 
-pub more-room : (gamma : Float) (ids : List ℕ) (s t : Stores) → MoreRoom gamma ids s t
-more-room gamma ids s t = record {
+pub more-room : (kind : Kind) (gamma : Float) (ids : List ℕ) (s t : Stores) → MoreRoom kind gamma ids s t
+more-room kind gamma ids s t = record {
   ends-as = λ b c more u.
-      let r = build-runs gamma ids s b in
-      let v : ended gamma ids s (outcome gamma ids s t more) .refusal ≡ 5 → ⊥ = rw r at u in
-      rw (r, build-runs gamma ids t c, same-run gamma ids s t more (λ i e. v (ap (λ (o : RunEnd). ended gamma ids s o .refusal) e)))
-      (ended-as gamma ids s t more (outcome gamma ids s t more) refl v);
+      let r = build-runs kind gamma ids s b in
+      let v : ended kind gamma ids s (outcome kind gamma ids s t more) .refusal ≡ 5 → ⊥ = rw r at u in
+      rw (r, build-runs kind gamma ids t c, same-run kind gamma ids s t more (λ i e. v (ap (λ (o : RunEnd). ended kind gamma ids s o .refusal) e)))
+      (ended-as kind gamma ids s t more (outcome kind gamma ids s t more) refl v);
 }

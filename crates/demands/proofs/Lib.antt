@@ -1,5 +1,6 @@
 pub mod Built
 pub mod Outcomes
+pub mod NoKinds
 pub mod Order
 pub mod Room
 pub mod Larger

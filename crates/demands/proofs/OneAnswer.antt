@@ -18,11 +18,11 @@ use Rattle.head.specs.declared.Head.{Head}
 use Rattle.lookup.specs.Lookup.{lookupCall}
 use Rattle.rows.specs.Rows.{RowStores, rowsCall}
 
--- a build: the outcome and the head, and the four stores
-pub build-once : (gamma : Float) (ids : List ℕ) (s : Stores) (a b : Headed) (t u : Stores) → builtOf (a .outcome) (a .head) t ≡ buildCall gamma ids s
-    → builtOf (b .outcome) (b .head) u ≡ buildCall gamma ids s → (a ≡ b) × (t ≡ u)
-build-once gamma ids s a b t u e f =
-    let same = made-once BuildAfter (buildCall gamma ids s) (a .outcome) (b .outcome) (buildAfter (a .head) t) (buildAfter (b .head) u) e f in
+-- a build, by any number of a kind: the outcome and the head, and the four stores
+pub build-once : (number : ℕ) (gamma : Float) (ids : List ℕ) (s : Stores) (a b : Headed) (t u : Stores) → builtOf (a .outcome) (a .head) t ≡ buildCall number gamma ids s
+    → builtOf (b .outcome) (b .head) u ≡ buildCall number gamma ids s → (a ≡ b) × (t ≡ u)
+build-once number gamma ids s a b t u e f =
+    let same = made-once BuildAfter (buildCall number gamma ids s) (a .outcome) (b .outcome) (buildAfter (a .head) t) (buildAfter (b .head) u) e f in
     (ap₂ (λ (m : Made) (l : BuildAfter). record { outcome = m; head = l .head }) (same .0) (same .1), ap (λ (l : BuildAfter). l .stores) (same .1))
 
 -- a lookup: the answer, for it writes no store

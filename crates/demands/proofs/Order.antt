@@ -8,17 +8,18 @@ use native.Mathlib.Omega.{arith}
 use lib.Dec.{eqb, leb}
 use lib.Ieee.{Float}
 use lib.ListN.{length, drop}
+use Rattle.mixer.specs.declared.Kind.{Kind}
 use Rattle.refusal.specs.declared.Made.{Made}
 use Rattle.refusal.specs.declared.Made.the-variants.{Done, Refused}
 use Rattle.bounds.specs.Bounds.{levelLimit}
-use Rattle.demands.specs.Demands.{checksOf, roomIn, SameRoom, SameEnd}
-use Rattle.demands.proofs.Outcomes.{Apart, checks-apart}
+use Rattle.demands.specs.Demands.{buildBy, checksOf, roomIn, SameRoom, SameEnd}
+use Rattle.demands.proofs.Outcomes.{Apart, checks-apart, build-is}
 use Rattle.laws.specs.Bits.{wordsFor, packed}
 use Rattle.laws.specs.Counting.{one, rank, chain, Same}
 use Rattle.laws.proofs.Chains.{chain-same}
 use Rattle.laws.proofs.Cases.{Tri, lt, eq, gt, tri}
 use Rattle.laws.proofs.Counts.{same-total, same-length, same-sift, same-one, length-sift, empty, perm-same}
-use Rattle.build.specs.Build.{BuildEnd, buildChecks, ended, afterChecks, buildCall}
+use Rattle.build.specs.Build.{BuildEnd, buildChecks, ended, afterChecks}
 use Rattle.run.specs.Stores.{Stores}
 use Rattle.head.specs.Index.{ruleOf, roomOf, indexWords, indexSamples, indexSizes}
 use Rattle.finding.specs.Find.{rowIn}
@@ -82,38 +83,37 @@ rows-any-order head words samples rows marks s = rw (same-by (λ x. rowIn (looku
 
 -- ---- a build
 
-module _ (gamma : Float) {xs ys : List ℕ} (s : Same xs ys) where
-  same : SameIndex (ruleOf gamma) xs ys
-  same = same-index (ruleOf gamma) s
+module _ (kind : Kind) (gamma : Float) {xs ys : List ℕ} (s : Same xs ys) where
+  same : SameIndex (ruleOf kind gamma) xs ys
+  same = same-index (ruleOf kind gamma) s
 
-  same-words : (n : ℕ) → indexWords (ruleOf gamma) xs n ≡ indexWords (ruleOf gamma) ys n
+  same-words : (n : ℕ) → indexWords (ruleOf kind gamma) xs n ≡ indexWords (ruleOf kind gamma) ys n
   unfolding indexWords
   same-words n = ap₂ (λ (w : ℕ → ℕ) (b : ℕ → ℕ → Bool). chain (λ i. packed (wordsFor (w i)) (b i)) n) (same .sizes) (same .bits)
 
-  same-samples : (n : ℕ) → indexSamples (ruleOf gamma) xs n ≡ indexSamples (ruleOf gamma) ys n
+  same-samples : (n : ℕ) → indexSamples (ruleOf kind gamma) xs n ≡ indexSamples (ruleOf kind gamma) ys n
   unfolding indexSamples
   same-samples n =
       ap₂ (λ (w : ℕ → ℕ) (b : ℕ → ℕ → Bool). chain (λ i. samplesOf (base w b i) (packed (wordsFor (w i)) (b i))) n) (same .sizes) (same .bits)
 
-  same-sizes : (n : ℕ) → indexSizes (ruleOf gamma) xs n ≡ indexSizes (ruleOf gamma) ys n
+  same-sizes : (n : ℕ) → indexSizes (ruleOf kind gamma) xs n ≡ indexSizes (ruleOf kind gamma) ys n
   unfolding indexSizes
   same-sizes n = ap (λ (w : ℕ → ℕ). chain (λ i. w i ∷ []) n) (same .sizes)
 
-  same-ended : (t : Stores) (o : RunEnd) → ended gamma xs t o ≡ ended gamma ys t o
+  same-ended : (t : Stores) (o : RunEnd) → ended kind gamma xs t o ≡ ended kind gamma ys t o
   same-ended t (built n) = rw (same-length s, same-words n, same-samples n, same-sizes n)
   same-ended t (noRoom i) = refl
   same-ended t (idsLeft n) = refl
 
   -- with the same stores: the same answer, head and stores
-  pub build-any-order : (t : Stores) → buildCall gamma xs t ≡ buildCall gamma ys t
-  unfolding buildCall
-  build-any-order t = rw (same-length s) (go (buildChecks gamma (length ys) (length (t .collide)) (length (t .rest))))
+  pub build-any-order : (t : Stores) → buildBy kind gamma xs t ≡ buildBy kind gamma ys t
+  build-any-order t = rw (build-is kind gamma xs t, build-is kind gamma ys t, same-length s) (go (buildChecks gamma (length ys) (length (t .collide)) (length (t .rest))))
     where
-      go : (m : Made) → afterChecks m gamma xs t ≡ afterChecks m gamma ys t
+      go : (m : Made) → afterChecks m kind gamma xs t ≡ afterChecks m kind gamma ys t
       go (Refused r) = refl
       go Done =
-          same-ended t (run (ruleOf gamma) (roomOf (length (t .words)) (length (t .samples))) xs levelLimit)
-          ∙ ap (λ (f : ℕ → RunEnd). ended gamma ys t (f levelLimit)) (same .runs (roomOf (length (t .words)) (length (t .samples))))
+          same-ended t (run (ruleOf kind gamma) (roomOf (length (t .words)) (length (t .samples))) xs levelLimit)
+          ∙ ap (λ (f : ℕ → RunEnd). ended kind gamma ys t (f levelLimit)) (same .runs (roomOf (length (t .words)) (length (t .samples))))
 
 -- ---- stores of the same lengths
 
@@ -125,21 +125,20 @@ alike e = record {
   stores = λ c. ap (λ (x : BuildEnd). x .after .stores) e;
 }
 
-module _ (gamma : Float) (ids : List ℕ) {s t : Stores} (r : SameRoom s t) where
-  room-ended : (o : RunEnd) → ended gamma ids s o ≡ ended gamma ids t o
+module _ (kind : Kind) (gamma : Float) (ids : List ℕ) {s t : Stores} (r : SameRoom s t) where
+  room-ended : (o : RunEnd) → ended kind gamma ids s o ≡ ended kind gamma ids t o
   room-ended (built n) = rw (r .words, r .samples, r .collide, r .rest)
   room-ended (noRoom i) = rw (r .words, r .samples, r .collide, r .rest)
   room-ended (idsLeft n) = rw (r .words, r .samples, r .collide, r .rest)
 
-  build-by-room : SameEnd (buildCall gamma ids s) (buildCall gamma ids t)
-  unfolding buildCall
-  build-by-room = rw (r .collide, r .rest) (go (checksOf gamma ids t) (checks-apart gamma (length ids) (length (t .collide)) (length (t .rest))))
+  build-by-room : SameEnd (buildBy kind gamma ids s) (buildBy kind gamma ids t)
+  build-by-room = rw (build-is kind gamma ids s, build-is kind gamma ids t, r .collide, r .rest) (go (checksOf gamma ids t) (checks-apart gamma (length ids) (length (t .collide)) (length (t .rest))))
     where
-      go : (m : Made) → Apart m → SameEnd (afterChecks m gamma ids s) (afterChecks m gamma ids t)
+      go : (m : Made) → Apart m → SameEnd (afterChecks m kind gamma ids s) (afterChecks m kind gamma ids t)
       go Done apart =
           alike
-          (room-ended (run (ruleOf gamma) (roomIn s) ids levelLimit)
-          ∙ ap₂ (λ (w v : ℕ). ended gamma ids t (run (ruleOf gamma) (roomOf w v) ids levelLimit)) (r .words) (r .samples))
+          (room-ended (run (ruleOf kind gamma) (roomIn s) ids levelLimit)
+          ∙ ap₂ (λ (w v : ℕ). ended kind gamma ids t (run (ruleOf kind gamma) (roomOf w v) ids levelLimit)) (r .words) (r .samples))
       go (Refused why) apart = record {
         refusal = refl;
         value = refl;
@@ -151,13 +150,13 @@ module _ (gamma : Float) (ids : List ℕ) {s t : Stores} (r : SameRoom s t) wher
       }
 
 -- with stores of the same lengths: the same index or the same refusal
-pub build-same : (gamma : Float) {xs ys : List ℕ} → Same xs ys → {s t : Stores} → SameRoom s t → SameEnd (buildCall gamma xs s) (buildCall gamma ys t)
-build-same gamma {xs} {ys} e {s} {t} r = rw (build-any-order gamma e s) (build-by-room gamma ys r)
+pub build-same : (kind : Kind) (gamma : Float) {xs ys : List ℕ} → Same xs ys → {s t : Stores} → SameRoom s t → SameEnd (buildBy kind gamma xs s) (buildBy kind gamma ys t)
+build-same kind gamma {xs} {ys} e {s} {t} r = rw (build-any-order kind gamma e s) (build-by-room kind gamma ys r)
 
 -- the same, where the ids are rearranged as mathlib has it
-pub build-permuted : (gamma : Float) {xs ys : List ℕ} → List·Permᴰ xs ys → {s t : Stores} → SameRoom s t
-    → SameEnd (buildCall gamma xs s) (buildCall gamma ys t)
-build-permuted gamma p r = build-same gamma (perm-same p) r
+pub build-permuted : (kind : Kind) (gamma : Float) {xs ys : List ℕ} → List·Permᴰ xs ys → {s t : Stores} → SameRoom s t
+    → SameEnd (buildBy kind gamma xs s) (buildBy kind gamma ys t)
+build-permuted kind gamma p r = build-same kind gamma (perm-same p) r
 
 pub rows-permuted : (head : Head) (words samples rows marks : List ℕ) {xs ys : List ℕ} → List·Permᴰ xs ys
     → R.rowsCall head words samples xs rows marks ≡ R.rowsCall head words samples ys rows marks

@@ -9,9 +9,11 @@ use lib.Ieee.{Float}
 use Rattle.refusal.specs.declared.Made.{Made}
 use Rattle.refusal.specs.declared.Made.the-variants.{Done, Refused}
 use Rattle.bounds.specs.Bounds.{maxIds, levelLimit}
-use Rattle.demands.specs.Demands.{checksOf, roomIn, ofRun, Outcomes}
+use Rattle.demands.specs.Demands.{buildBy, checksOf, roomIn, ofRun, Outcomes}
 use Rattle.laws.specs.Bits.{wordsFor}
 use Rattle.build.specs.Build.{BuildEnd, builtOf, buildChecks, ended, afterChecks, buildCall}
+use Rattle.mixer.specs.declared.Kind.{Kind}
+use Rattle.mixer.proofs.KindNumbers.{number-known}
 use Rattle.run.specs.Stores.{Stores}
 use Rattle.head.specs.Index.{noHead, ruleOf}
 use Rattle.head.specs.declared.Head.{Head}
@@ -48,50 +50,55 @@ checks-apart gamma n collide rest =
     no-more : Apart Done
     no-more why e = let z : _≡_ {A = ℕ} 0 1 = cc in absurd (omega arith)
 
-module _ (gamma : Float) (ids : List ℕ) (s : Stores) where
+module _ (kind : Kind) (gamma : Float) (ids : List ℕ) (s : Stores) where
+  -- ---- a build of a known kind is what its checks and its run come to
+
+  pub build-is : buildBy kind gamma ids s ≡ afterChecks (checksOf gamma ids s) kind gamma ids s
+  unfolding buildCall
+  build-is = rw (number-known kind)
+
   -- ---- the run gives no other
 
-  run-number : (o : RunEnd) → ofRun (ended gamma ids s o .refusal) ≡ true
+  run-number : (o : RunEnd) → ofRun (ended kind gamma ids s o .refusal) ≡ true
   run-number (built n) = refl
   run-number (noRoom i) = refl
   run-number (idsLeft n) = refl
 
-  pub outcomes : Outcomes gamma ids s
-  unfolding buildCall
+  pub outcomes : Outcomes kind gamma ids s
   outcomes = record {
-    of-run = (passed (checksOf gamma ids s) refl, λ e. rw e (run-number (run (ruleOf gamma) (roomIn s) ids levelLimit)));
-    as-run = λ e. rw e;
-    of-check = kept (checksOf gamma ids s);
+    of-run = (λ h. passed (checksOf gamma ids s) refl (rw build-is at h), λ e. rw (build-is, e) (run-number (run (ruleOf kind gamma) (roomIn s) ids levelLimit)));
+    as-run = λ e. rw (build-is, e);
+    of-check = λ h. rw build-is (kept (checksOf gamma ids s) (rw build-is at h));
   }
     where
-      passed : (m : Made) → checksOf gamma ids s ≡ m → ofRun (afterChecks m gamma ids s .refusal) ≡ true → m ≡ Done
+      passed : (m : Made) → checksOf gamma ids s ≡ m → ofRun (afterChecks m kind gamma ids s .refusal) ≡ true → m ≡ Done
       passed Done e h = refl
       passed (Refused why) e h =
           let k = checks-apart gamma _ _ _ why e in
           let z : _≡_ {A = ℕ} 0 1 = cc in
           absurd (omega arith)
 
-      kept : (m : Made) → ofRun (afterChecks m gamma ids s .refusal) ≡ false
-          → (afterChecks m gamma ids s .after .head ≡ noHead) × (afterChecks m gamma ids s .after .stores ≡ s)
+      kept : (m : Made) → ofRun (afterChecks m kind gamma ids s .refusal) ≡ false
+          → (afterChecks m kind gamma ids s .after .head ≡ noHead) × (afterChecks m kind gamma ids s .after .stores ≡ s)
       kept Done h =
-          let k = run-number (run (ruleOf gamma) (roomIn s) ids levelLimit) in
+          let k = run-number (run (ruleOf kind gamma) (roomIn s) ids levelLimit) in
           let z : _≡_ {A = ℕ} 0 1 = cc in
           absurd (omega arith)
       kept (Refused why) h = (refl, refl)
 
   -- so what has such a number is the run's
-  pub by-run : ofRun (buildCall gamma ids s .refusal) ≡ true → buildCall gamma ids s ≡ ended gamma ids s (run (ruleOf gamma) (roomIn s) ids levelLimit)
+  pub by-run : ofRun (buildBy kind gamma ids s .refusal) ≡ true → buildBy kind gamma ids s ≡ ended kind gamma ids s (run (ruleOf kind gamma) (roomIn s) ids levelLimit)
   by-run h = outcomes .as-run (outcomes .of-run .0 h)
 
   -- ---- the run's outcome, by what the build leaves
 
   module _ (head : Head) (t : Stores) where
-    pub was-5 : (o : RunEnd) (i : ℕ) → ended gamma ids s o ≡ builtOf (Refused (NoRoomForLevel i)) head t → o ≡ noRoom i
+    pub was-5 : (o : RunEnd) (i : ℕ) → ended kind gamma ids s o ≡ builtOf (Refused (NoRoomForLevel i)) head t → o ≡ noRoom i
     was-5 (built n) i e = absurd (omega (arith, ap (λ (x : BuildEnd). x .refusal) e))
     was-5 (noRoom j) i e = ap (λ (x : BuildEnd). noRoom (x .value)) e
     was-5 (idsLeft n) i e = absurd (omega (arith, ap (λ (x : BuildEnd). x .refusal) e))
 
-    pub was-6 : (o : RunEnd) (n : ℕ) → ended gamma ids s o ≡ builtOf (Refused (IdsRemain n)) head t → o ≡ idsLeft n
+    pub was-6 : (o : RunEnd) (n : ℕ) → ended kind gamma ids s o ≡ builtOf (Refused (IdsRemain n)) head t → o ≡ idsLeft n
     was-6 (built m) n e = absurd (omega (arith, ap (λ (x : BuildEnd). x .refusal) e))
     was-6 (noRoom i) n e = absurd (omega (arith, ap (λ (x : BuildEnd). x .refusal) e))
     was-6 (idsLeft m) n e = ap (λ (x : BuildEnd). idsLeft (x .value)) e

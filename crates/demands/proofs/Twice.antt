@@ -17,9 +17,12 @@ use Rattle.rule.specs.Demand.{Reaches, out-of-room, at-limit}
 use Rattle.rule.proofs.Run.{room-enough, words-short, ends-only}
 use Rattle.sizes.specs.Sizes.{sizeFor, wholeOf, rounded}
 use Rattle.run.specs.Stores.{Stores}
-use Rattle.build.specs.Build.{buildChecks, refusedRun, buildCall}
+use Rattle.build.specs.Build.{buildChecks, refusedRun}
 use Rattle.head.specs.Index.{ruleOf, roomOf}
 use Rattle.build.proofs.Builds.{checked}
+use Rattle.demands.specs.Demands.{buildBy}
+use Rattle.demands.proofs.Outcomes.{build-is}
+use Rattle.mixer.specs.declared.Kind.{Kind}
 use Rattle.demands.specs.Inputs.{two}
 
 -- ---- by any rule
@@ -39,14 +42,14 @@ module _ (rule : Rule) (x : ℕ) where
   taken need (suc i) =
       ap₂ _+_ (taken need i) (ap (λ (xs : List ℕ). need (rule .size (length xs))) (stays i)) ∙ sym (suc-mul i (need (rule .size 2)))
 
--- ---- at gamma 2.0
+-- ---- at gamma 2.0, by any kind
 
-module _ (x : ℕ) (s : Stores) where
+module _ (kind : Kind) (x : ℕ) (s : Stores) where
   abbrev ids : List ℕ
   ids = x ∷ x ∷ []
 
   abbrev rule : Rule
-  rule = ruleOf two
+  rule = ruleOf kind two
 
   abbrev room : Room
   room = roomOf (length (s .words)) (length (s .samples))
@@ -76,14 +79,12 @@ module _ (x : ℕ) (s : Stores) where
     passes = checked two 2 (length (s .collide)) (length (s .rest)) refl refl (lit≤ tt) in-rest in-collide
 
     -- with 400 words and 100 samples two ids remain after level 99: refusal 6 with 2
-    pub twice-left : length (s .words) ≡ 400 → length (s .samples) ≡ 100 → buildCall two (x ∷ x ∷ []) s ≡ refusedRun (IdsRemain 2) s
-    unfolding buildCall
+    pub twice-left : length (s .words) ≡ 400 → length (s .samples) ≡ 100 → buildBy kind two (x ∷ x ∷ []) s ≡ refusedRun (IdsRemain 2) s
     twice-left h k =
         let two-left = ap idsLeft (sym (ap length (stays rule x levelLimit))) in
-        rw (← passes, ends-only rule room ids levelLimit (at-limit (reached levelLimit (omega arith) (omega arith)) two-left))
+        rw (build-is kind two ids s, ← passes, ends-only rule room ids levelLimit (at-limit (reached levelLimit (omega arith) (omega arith)) two-left))
 
     -- with 399 words there is no room for level 99: refusal 5 with 99
-    pub twice-full : length (s .words) ≡ 399 → length (s .samples) ≡ 100 → buildCall two (x ∷ x ∷ []) s ≡ refusedRun (NoRoomForLevel 99) s
-    unfolding buildCall
+    pub twice-full : length (s .words) ≡ 399 → length (s .samples) ≡ 100 → buildBy kind two (x ∷ x ∷ []) s ≡ refusedRun (NoRoomForLevel 99) s
     twice-full h k =
-        rw (← passes, ends-only rule room ids levelLimit (out-of-room 99 (lit< tt) (reached 99 (omega arith) (omega arith)) (full 100 (omega arith)) refl))
+        rw (build-is kind two ids s, ← passes, ends-only rule room ids levelLimit (out-of-room 99 (lit< tt) (reached 99 (omega arith) (omega arith)) (full 100 (omega arith)) refl))

@@ -1,5 +1,6 @@
 -- Lookups and row lists depend on the used part of the stores alone: they may be cut to it, or be longer, with anything past it. Assumes nothing.
 use mathlib.Core.Path.{_≡_, refl, sym, ap, ap₂, _∙_, subst, fun-ext}
+use mathlib.Core.Logic.{inl, inr}
 use mathlib.Core.Bool.{Bool, true, false}
 use mathlib.Core.List.{List, _++_}
 use mathlib.Core.Option.{Option, none, some}
@@ -9,14 +10,19 @@ use borrow.Author.Tests.{le-leb}
 use lib.Ieee.{Float}
 use lib.ListN.{length, take, drop, length-append, List·getD-append}
 use lib.Seq.{ext-getD, getD-take, getD-drop, length-take-le}
-use Rattle.demands.specs.Demands.{Lookups, IndexRows, Indexed}
+use Rattle.mixer.specs.declared.Kind.{Kind}
+use Rattle.demands.specs.Demands.{buildBy, Lookups, IndexRows, Indexed}
 use Rattle.demands.specs.Rooms.{SameFront, SameUsed, SameReads, withStores, cut}
 use Rattle.demands.proofs.Demand3.{demand3, never-refused}
 use Rattle.laws.specs.Bits.{has, wordsFor}
 use Rattle.laws.proofs.Parts.{length-part}
 use Rattle.laws.proofs.Sums.{sum-mono}
-use Rattle.mixer.specs.Position.{position}
-use Rattle.build.specs.Build.{BuildEnd, buildCall}
+use Rattle.mixer.specs.Kinds.{kindOf}
+use Rattle.head.specs.KindCheck.{checkKind}
+use Rattle.mixer.specs.declared.KindOf.the-variants.{Known}
+use Rattle.mixer.proofs.KindNumbers.{number-known, number-or-not}
+use Rattle.head.specs.Index.{positions}
+use Rattle.build.specs.Build.{BuildEnd}
 use Rattle.run.specs.Stores.{Stores}
 use Rattle.head.specs.Layout.{samplesOfSize, sizeAt, levelWords, levelSamples, usedWords, usedSamples, fit}
 use Rattle.finding.specs.Find.{Answer, rowAnswer, levelAnswer, findIn}
@@ -25,9 +31,9 @@ use Rattle.refusal.specs.Answers.{Outcome}
 use Rattle.rows.specs.Rows.{RowStores, rowsCall}
 use Rattle.head.specs.Fit.{Fit}
 use Rattle.head.specs.declared.Head.{Head}
-use Rattle.lookup.proofs.Lookups.{lookup-unfit}
+use Rattle.lookup.proofs.Lookups.{lookup-unknown, lookup-unfit}
 use Rattle.head.proofs.Fits.{fit-known}
-use Rattle.refusal.specs.declared.Refusal.the-variants.{UnfitHead}
+use Rattle.refusal.specs.declared.Refusal.the-variants.{UnfitHead, UnknownKind}
 use Rattle.rule.specs.Rule.{first}
 use Rattle.rule.proofs.Reader.{first-has, first-same}
 
@@ -74,28 +80,28 @@ module _ (head : Head) (ws ss vs ts : List ℕ) (same : SameUsed head ws ss vs t
         le-leb (usedSamples head) (length ts) (same .samples .in-second),
       )
 
-  same-find : (x : ℕ) → findIn position (head .count) size ws ss x (head .levels) ≡ findIn position (head .count) size vs ts x (head .levels)
+  same-find : (pos : (level size id : ℕ) → ℕ) (x : ℕ) → findIn pos (head .count) size ws ss x (head .levels) ≡ findIn pos (head .count) size vs ts x (head .levels)
   unfolding findIn
-  same-find x =
-      go (first position size (λ i. has (levelWords size ws i)) (head .levels) 0 x) refl
-      ∙ ap (levelAnswer position (head .count) size vs ts x)
-      (first-same position size size (λ i. has (levelWords size ws i)) (λ i. has (levelWords size vs i)) x (head .levels) 0
-      (λ j h. ap (λ (us : List ℕ). has us (position j (size j) x)) (same-words j (omega arith))))
+  same-find pos x =
+      go (first pos size (λ i. has (levelWords size ws i)) (head .levels) 0 x) refl
+      ∙ ap (levelAnswer pos (head .count) size vs ts x)
+      (first-same pos size size (λ i. has (levelWords size ws i)) (λ i. has (levelWords size vs i)) x (head .levels) 0
+      (λ j h. ap (λ (us : List ℕ). has us (pos j (size j) x)) (same-words j (omega arith))))
     where
-      go : (o : Option ℕ) → first position size (λ i. has (levelWords size ws i)) (head .levels) 0 x ≡ o
-          → levelAnswer position (head .count) size ws ss x o ≡ levelAnswer position (head .count) size vs ts x o
+      go : (o : Option ℕ) → first pos size (λ i. has (levelWords size ws i)) (head .levels) 0 x ≡ o
+          → levelAnswer pos (head .count) size ws ss x o ≡ levelAnswer pos (head .count) size vs ts x o
       go none e = refl
       go (some i) e =
-          let h : i < head .levels = omega (arith, first-has position size (λ i. has (levelWords size ws i)) (head .levels) 0 i x e .1) in
-          ap₂ (λ (us rs : List ℕ). rowAnswer (head .count) us rs i (position i (size i) x)) (same-words i h) (same-samples i h)
+          let h : i < head .levels = omega (arith, first-has pos size (λ i. has (levelWords size ws i)) (head .levels) 0 i x e .1) in
+          ap₂ (λ (us rs : List ℕ). rowAnswer (head .count) us rs i (pos i (size i) x)) (same-words i h) (same-samples i h)
 
   same-lookup : (x : ℕ) → lookupCall head ws ss x ≡ lookupCall head vs ts x
   unfolding lookupCall
-  same-lookup x = rw (same-fit, same-find x)
+  same-lookup x = rw same-fit (ap (checkKind (kindOf (head .kind)) _) (fun-ext (λ kind. rw (same-find (positions kind) x))))
 
   same-rows : (ids rows marks : List ℕ) → rowsCall head ws ss ids rows marks ≡ rowsCall head vs ts ids rows marks
   unfolding rowsCall
-  same-rows ids rows marks = rw same-fit (simp same-lookup)
+  same-rows ids rows marks = rw (same-fit, fun-ext same-lookup)
 
   pub same-reads : SameReads head ws ss vs ts
   same-reads = record { lookups = same-lookup; row-lists = same-rows }
@@ -125,13 +131,17 @@ module _ {ids : List ℕ} {end : BuildEnd} (index : Indexed ids end) where
   abbrev fits : Bool
   fits = fit (end .after .head .count) (end .after .head .levels) (end .after .head .sizes) (length (end .after .stores .words)) (length (end .after .stores .samples))
 
-  -- fits its stores, or lookups would be refused
+  -- has a known kind and fits its stores, or lookups would be refused
   index-fits : fits ≡ true
-  index-fits = go fits refl
+  index-fits =
+      elim (number-or-not (end .after .head .kind)) [
+        | inl (kind, e) ↦ go kind (ap kindOf e ∙ number-known kind) fits refl
+        | inr u ↦ absurd (never-refused index 0 UnknownKind (lookup-unknown (end .after .head) (end .after .stores .words) (end .after .stores .samples) 0 u))
+      ]
     where
-      go : (b : Bool) → fits ≡ b → b ≡ true
-      go true e = refl
-      go false e = absurd (never-refused index 0 UnfitHead (lookup-unfit (end .after .head) (end .after .stores .words) (end .after .stores .samples) 0 e))
+      go : (kind : Kind) → kindOf (end .after .head .kind) ≡ Known kind → (b : Bool) → fits ≡ b → b ≡ true
+      go kind k true e = refl
+      go kind k false e = absurd (never-refused index 0 UnfitHead (lookup-unfit (end .after .head) (end .after .stores .words) (end .after .stores .samples) 0 kind k e))
 
   -- so they have the used part
   has-used : Fit (end .after .head .count) (end .after .head .levels) (end .after .head .sizes) (length (end .after .stores .words)) (length (end .after .stores .samples))
@@ -148,5 +158,5 @@ module _ {ids : List ℕ} {end : BuildEnd} (index : Indexed ids end) where
   cut-indexed = indexed-in index (cut end .after .stores) cut-same
 
 -- so does that of an accepted build
-pub build-cut : (gamma : Float) (ids : List ℕ) (s : Stores) → buildCall gamma ids s .refusal ≡ 0 → Indexed ids (cut (buildCall gamma ids s))
-build-cut gamma ids s done = cut-indexed (demand3 gamma ids s .accepted done)
+pub build-cut : (kind : Kind) (gamma : Float) (ids : List ℕ) (s : Stores) → buildBy kind gamma ids s .refusal ≡ 0 → Indexed ids (cut (buildBy kind gamma ids s))
+build-cut kind gamma ids s done = cut-indexed (demand3 kind gamma ids s .accepted done)

@@ -3,6 +3,7 @@ use mathlib.Core.Path.{_≡_, refl}
 use mathlib.Core.List.{[]}
 use lib.Ieee.{ofBits, lt}
 use Rattle.laws.specs.Bits.{bitAt, has, packed}
+use Rattle.mixer.specs.Kinds.{kindOf}
 use Rattle.mixer.specs.Mixer.{mixed}
 use Rattle.mixer.specs.Position.{position}
 use Rattle.ranks.specs.Ranks.{firstSamples, onesFrom}
@@ -17,26 +18,26 @@ use Rattle.finding.specs.declared.Found.the-variants.{Row}
 use Rattle.demands.specs.Inputs.{two, three, lentThree, threeBuilt, threeLeft, pair, lentPair, pairBuilt, pairLeft, firstPlace, secondPlace}
 use Rattle.demands.specs.Inputs.{lentNone, noneBuilt, noneLeft, one, lentOne, oneBuilt, oneLeft}
 
-pub three-built : builtOf (threeBuilt .outcome) (threeBuilt .head) threeLeft ≡ buildCall two three lentThree
-unfolding buildCall buildChecks lt ofBits sizeFor wholeOf rounded runFrom remaining position mixed indexWords indexSamples indexSizes packed firstSamples has bitAt
+pub three-built : builtOf (threeBuilt .outcome) (threeBuilt .head) threeLeft ≡ buildCall 0 two three lentThree
+unfolding kindOf buildCall buildChecks lt ofBits sizeFor wholeOf rounded runFrom remaining position mixed indexWords indexSamples indexSizes packed firstSamples has bitAt
 three-built = refl
 
-pub pair-built : builtOf (pairBuilt .outcome) (pairBuilt .head) pairLeft ≡ buildCall two pair lentPair
-unfolding buildCall buildChecks lt ofBits sizeFor wholeOf rounded runFrom remaining position mixed indexWords indexSamples indexSizes packed firstSamples has bitAt
+pub pair-built : builtOf (pairBuilt .outcome) (pairBuilt .head) pairLeft ≡ buildCall 0 two pair lentPair
+unfolding kindOf buildCall buildChecks lt ofBits sizeFor wholeOf rounded runFrom remaining position mixed indexWords indexSamples indexSizes packed firstSamples has bitAt
 pair-built = refl
 
-pub none-built : builtOf (noneBuilt .outcome) (noneBuilt .head) noneLeft ≡ buildCall two [] lentNone
-unfolding buildCall buildChecks lt ofBits sizeFor wholeOf rounded runFrom remaining position mixed indexWords indexSamples indexSizes packed firstSamples has bitAt
+pub none-built : builtOf (noneBuilt .outcome) (noneBuilt .head) noneLeft ≡ buildCall 0 two [] lentNone
+unfolding kindOf buildCall buildChecks lt ofBits sizeFor wholeOf rounded runFrom remaining position mixed indexWords indexSamples indexSizes packed firstSamples has bitAt
 none-built = refl
 
-pub one-built : builtOf (oneBuilt .outcome) (oneBuilt .head) oneLeft ≡ buildCall two one lentOne
-unfolding buildCall buildChecks lt ofBits sizeFor wholeOf rounded runFrom remaining position mixed indexWords indexSamples indexSizes packed firstSamples has bitAt
+pub one-built : builtOf (oneBuilt .outcome) (oneBuilt .head) oneLeft ≡ buildCall 0 two one lentOne
+unfolding kindOf buildCall buildChecks lt ofBits sizeFor wholeOf rounded runFrom remaining position mixed indexWords indexSamples indexSizes packed firstSamples has bitAt
 one-built = refl
 
 pub first-found : answerOf (Row firstPlace) ≡ lookupCall (pairBuilt .head) (pairLeft .words) (pairLeft .samples) 1
-unfolding lookupCall fit bounded findIn first rowAnswer onesFrom position mixed has bitAt
+unfolding kindOf lookupCall fit bounded findIn first rowAnswer onesFrom position mixed has bitAt
 first-found = refl
 
 pub second-found : answerOf (Row secondPlace) ≡ lookupCall (pairBuilt .head) (pairLeft .words) (pairLeft .samples) 2
-unfolding lookupCall fit bounded findIn first rowAnswer onesFrom position mixed has bitAt
+unfolding kindOf lookupCall fit bounded findIn first rowAnswer onesFrom position mixed has bitAt
 second-found = refl

@@ -1,5 +1,6 @@
 -- What a user can rely on, said of the public calls as they are promised: `buildCall`, `lookupCall` and `rowsCall` are the answers and stores that `build`,
--- `lookup` and `rows` leave. An id is a number that stands in ids: `0 < count x ids`; `Same` lists hold the same ids, each as often, in any order.
+-- `lookup` and `rows` leave. Of builds it speaks for known kinds, of one at a time: nothing is said between indexes of different kinds. An id is a number that
+-- stands in ids: `0 < count x ids`; `Same` lists hold the same ids, each as often, in any order.
 use mathlib.Core.Path.{_≡_}
 use mathlib.Core.Logic.{_↔_, _⊎_}
 use mathlib.Core.Bool.{Bool, true, false, _||_}
@@ -8,28 +9,48 @@ use Prim.Native.Nat.{ℕ, suc, _+_, _*_, _≤_, _<_}
 use lib.Dec.{eqb}
 use lib.Ieee.{Float}
 use lib.ListN.{length, getD, drop}
-use Rattle.refusal.specs.Answers.{Outcome, answered}
+use Rattle.refusal.specs.Answers.{Outcome, answered, refused}
 use Rattle.refusal.specs.declared.Made.{Made}
 use Rattle.refusal.specs.declared.Made.the-variants.{Done}
 use Rattle.bounds.specs.Bounds.{maxIds, levelLimit}
 use Rattle.laws.specs.Counting.{count, Same}
 use Rattle.laws.specs.Bits.{wordsFor}
-use Rattle.build.specs.Build.{BuildEnd, refusedRun, buildChecks, ended, buildCall}
+use Rattle.build.specs.Build.{BuildEnd, buildAfter, refusedRun, buildChecks, ended, buildCall}
 use Rattle.run.specs.Stores.{Stores, stores}
+use Rattle.mixer.specs.Kinds.{kindNumber}
+use Rattle.mixer.specs.declared.Kind.{Kind}
+use Rattle.head.specs.declared.Head.{Head}
 use Rattle.head.specs.Index.{noHead, ruleOf, roomOf}
 use Rattle.head.specs.Layout.{samplesOfSize}
-use Rattle.finding.specs.Find.{Answer, found, nothing}
+use Rattle.finding.specs.Find.{Answer, found, nothing, refusedFor}
 use Rattle.lookup.specs.Lookup.{lookupCall}
 use Rattle.rows.specs.Rows.{RowStores, rowStores, clearMarks, rowsCall}
-use Rattle.refusal.specs.declared.Refusal.the-variants.{NoRoomForLevel, IdsRemain}
+use Rattle.refusal.specs.declared.Refusal.the-variants.{NoRoomForLevel, IdsRemain, UnknownKind}
 use Rattle.rule.specs.Demand.{Before, Reaches, Enough}
 use Rattle.rule.specs.Rule.{Room, RowPlace, remaining, fits, run}
 use Rattle.sizes.specs.Gamma.{Allowed}
 use Rattle.sizes.specs.Sizes.{sizeFor}
 
+-- ---- kinds
+
+-- a build of a known kind
+abbrev pub buildBy : Kind → Float → List ℕ → Stores → BuildEnd
+buildBy kind gamma ids s = buildCall (kindNumber kind) gamma ids s
+
+-- A number that no kind has is refused with 16, whatever else is wrong: a build leaves a head of 0, and all stores stay as they were.
+pub record NoKind (number : ℕ) : Type 0 where
+  pub build : (gamma : Float) (ids : List ℕ) (s : Stores) → buildCall number gamma ids s ≡ refused (buildAfter noHead s) UnknownKind
+  pub lookup : (head : Head) (ws ss : List ℕ) (x : ℕ) → head .kind ≡ number → lookupCall head ws ss x ≡ refusedFor UnknownKind
+  pub rows : (head : Head) (ws ss ids rows marks : List ℕ) → head .kind ≡ number
+      → rowsCall head ws ss ids rows marks ≡ refused (rowStores rows marks) UnknownKind
+
+-- Any number is that of a known kind, or no kind has it.
+abbrev pub KindOrNone : ℕ → Type 0
+KindOrNone number = ((kind : Kind) × (number ≡ kindNumber kind)) ⊎ NoKind number
+
 -- ---- what comes of the run, and what of the checks before it
 
--- the checks of a build
+-- the checks of a build past that of its kind
 abbrev pub checksOf : Float → List ℕ → Stores → Made
 checksOf gamma ids s = buildChecks gamma (length ids) (length (s .collide)) (length (s .rest))
 
@@ -42,13 +63,13 @@ abbrev pub ofRun : ℕ → Bool
 ofRun refusal = eqb refusal 0 || eqb refusal 5 || eqb refusal 6
 
 -- Where the outcome of a build comes from.
-pub record Outcomes (gamma : Float) (ids : List ℕ) (s : Stores) : Type 0 where
+pub record Outcomes (kind : Kind) (gamma : Float) (ids : List ℕ) (s : Stores) : Type 0 where
   -- 0, 5 or 6 is given exactly if the checks are passed,
-  pub of-run : (ofRun (buildCall gamma ids s .refusal) ≡ true) ↔ (checksOf gamma ids s ≡ Done)
+  pub of-run : (ofRun (buildBy kind gamma ids s .refusal) ≡ true) ↔ (checksOf gamma ids s ≡ Done)
   -- and then it is what the run comes to
-  pub as-run : checksOf gamma ids s ≡ Done → buildCall gamma ids s ≡ ended gamma ids s (run (ruleOf gamma) (roomIn s) ids levelLimit)
+  pub as-run : checksOf gamma ids s ≡ Done → buildBy kind gamma ids s ≡ ended kind gamma ids s (run (ruleOf kind gamma) (roomIn s) ids levelLimit)
   -- every other refusal leaves a head of 0, and the stores as they were
-  pub of-check : ofRun (buildCall gamma ids s .refusal) ≡ false → (buildCall gamma ids s .after .head ≡ noHead) × (buildCall gamma ids s .after .stores ≡ s)
+  pub of-check : ofRun (buildBy kind gamma ids s .refusal) ≡ false → (buildBy kind gamma ids s .after .head ≡ noHead) × (buildBy kind gamma ids s .after .stores ≡ s)
 
 -- ---- when a build is refused
 
@@ -60,16 +81,16 @@ pub record InBounds (gamma : Float) (ids : List ℕ) (s : Stores) : Type 0 where
   pub collide-long : wordsFor (sizeFor gamma (length ids)) ≤ length (s .collide)
 
 -- a build comes to level i: there is room for the levels before it, and ids are left after each of them
-abbrev pub ComesTo : Float → List ℕ → Stores → ℕ → Type 0
-ComesTo gamma ids s i = Reaches (ruleOf gamma) (roomIn s) ids i
+abbrev pub ComesTo : Kind → Float → List ℕ → Stores → ℕ → Type 0
+ComesTo kind gamma ids s i = Reaches (ruleOf kind gamma) (roomIn s) ids i
 
 -- whether there is room for level i too
-abbrev pub roomFor : Float → List ℕ → Stores → ℕ → Bool
-roomFor gamma ids s i = fits (ruleOf gamma) (roomIn s) ids (suc i)
+abbrev pub roomFor : Kind → Float → List ℕ → Stores → ℕ → Bool
+roomFor kind gamma ids s i = fits (ruleOf kind gamma) (roomIn s) ids (suc i)
 
 -- room enough: for each level that the build comes to, as the level rule has it
-abbrev pub RoomEnough : Float → List ℕ → Stores → Type 0
-RoomEnough gamma ids s = Enough (ruleOf gamma) (roomIn s) ids levelLimit
+abbrev pub RoomEnough : Kind → Float → List ℕ → Stores → Type 0
+RoomEnough kind gamma ids s = Enough (ruleOf kind gamma) (roomIn s) ids levelLimit
 
 -- room for as many levels as there can be, each as large as level 0 of n ids
 abbrev pub wordsEnough : Float → ℕ → ℕ
@@ -84,27 +105,27 @@ pub record FullRoom (gamma : Float) (ids : List ℕ) (s : Stores) : Type 0 where
   pub samples : samplesEnough gamma (length ids) ≤ length (s .samples)
 
 -- how many ids the level rule leaves after level 99, the last
-abbrev pub leftOver : Float → List ℕ → ℕ
-leftOver gamma ids = length (remaining (ruleOf gamma) ids levelLimit)
+abbrev pub leftOver : Kind → Float → List ℕ → ℕ
+leftOver kind gamma ids = length (remaining (ruleOf kind gamma) ids levelLimit)
 
 -- How a build in bounds and with room enough is refused.
-pub record Refusals (gamma : Float) (ids : List ℕ) (s : Stores) : Type 0 where
+pub record Refusals (kind : Kind) (gamma : Float) (ids : List ℕ) (s : Stores) : Type 0 where
   -- it is refused exactly if the level rule leaves ids after level 99,
-  pub exactly : (0 < buildCall gamma ids s .refusal) ↔ (0 < leftOver gamma ids)
+  pub exactly : (0 < buildBy kind gamma ids s .refusal) ↔ (0 < leftOver kind gamma ids)
   -- and then with 6 and their number, a head of 0 and stores of 0
-  pub as-6 : 0 < leftOver gamma ids → buildCall gamma ids s ≡ refusedRun (IdsRemain (leftOver gamma ids)) s
+  pub as-6 : 0 < leftOver kind gamma ids → buildBy kind gamma ids s ≡ refusedRun (IdsRemain (leftOver kind gamma ids)) s
   -- so that 5 never comes
-  pub never-5 : buildCall gamma ids s .refusal ≡ 5 → ⊥
+  pub never-5 : buildBy kind gamma ids s .refusal ≡ 5 → ⊥
 
 -- How a build in bounds ends, whatever room there is.
-pub record Endings (gamma : Float) (ids : List ℕ) (s : Stores) : Type 0 where
+pub record Endings (kind : Kind) (gamma : Float) (ids : List ℕ) (s : Stores) : Type 0 where
   -- accepted with levels 0 to i exactly if it comes to level i, there is room for it, and no id is left after it
-  pub done : (i : ℕ) → ((buildCall gamma ids s .refusal ≡ 0) × (buildCall gamma ids s .after .head .levels ≡ suc i))
-      ↔ ((i < levelLimit) × ComesTo gamma ids s i × (roomFor gamma ids s i ≡ true) × (remaining (ruleOf gamma) ids (suc i) ≡ []))
+  pub done : (i : ℕ) → ((buildBy kind gamma ids s .refusal ≡ 0) × (buildBy kind gamma ids s .after .head .levels ≡ suc i))
+      ↔ ((i < levelLimit) × ComesTo kind gamma ids s i × (roomFor kind gamma ids s i ≡ true) × (remaining (ruleOf kind gamma) ids (suc i) ≡ []))
   -- refused with 5, giving i, exactly if it comes to level i and there is no room for it
-  pub as-5 : (i : ℕ) → (buildCall gamma ids s ≡ refusedRun (NoRoomForLevel i) s) ↔ ((i < levelLimit) × ComesTo gamma ids s i × (roomFor gamma ids s i ≡ false))
+  pub as-5 : (i : ℕ) → (buildBy kind gamma ids s ≡ refusedRun (NoRoomForLevel i) s) ↔ ((i < levelLimit) × ComesTo kind gamma ids s i × (roomFor kind gamma ids s i ≡ false))
   -- refused with 6, giving n, exactly if it comes past the last level and n ids are left
-  pub as-6 : (n : ℕ) → (buildCall gamma ids s ≡ refusedRun (IdsRemain n) s) ↔ (ComesTo gamma ids s levelLimit × (leftOver gamma ids ≡ n))
+  pub as-6 : (n : ℕ) → (buildBy kind gamma ids s ≡ refusedRun (IdsRemain n) s) ↔ (ComesTo kind gamma ids s levelLimit × (leftOver kind gamma ids ≡ n))
 
 -- ---- what an accepted build leaves
 
@@ -147,14 +168,16 @@ pub record Indexed (ids : List ℕ) (end : BuildEnd) : Type 0 where
 
 -- ---- demand 3
 
-pub record Demand3 (gamma : Float) (ids : List ℕ) (s : Stores) : Type 0 where
+pub record Demand3 (kind : Kind) (gamma : Float) (ids : List ℕ) (s : Stores) : Type 0 where
   -- With gamma and id count in bounds and room for each level that it comes to, a build is refused exactly when the level rule leaves ids after level 99.
-  pub refused : InBounds gamma ids s → RoomEnough gamma ids s → Refusals gamma ids s
+  pub refused : InBounds gamma ids s → RoomEnough kind gamma ids s → Refusals kind gamma ids s
   -- Once accepted, each row below n belongs to exactly one of the n ids, the row list holds every id exactly once, by level and then position, and a foreign
   -- id gets none or a row below n.
-  pub accepted : buildCall gamma ids s .refusal ≡ 0 → Indexed ids (buildCall gamma ids s)
-  -- The same ids in any order, with the same gamma and stores, give the same index or the same refusal.
-  pub any-order : (others : List ℕ) → Same others ids → buildCall gamma others s ≡ buildCall gamma ids s
+  pub accepted : buildBy kind gamma ids s .refusal ≡ 0 → Indexed ids (buildBy kind gamma ids s)
+  -- Its head has the kind that was asked for.
+  pub kind-kept : buildBy kind gamma ids s .refusal ≡ 0 → buildBy kind gamma ids s .after .head .kind ≡ kindNumber kind
+  -- The same ids in any order, with the same kind, gamma and stores, give the same index or the same refusal.
+  pub any-order : (others : List ℕ) → Same others ids → buildBy kind gamma others s ≡ buildBy kind gamma ids s
 
 -- ---- the order of the ids does not matter, nor what the stores held
 

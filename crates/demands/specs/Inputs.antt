@@ -1,4 +1,4 @@
--- Small inputs at which the promises are worked out, and what they have to come to.
+-- Small inputs at which the promises are worked out, by the plain kind, and what they have to come to.
 use mathlib.Core.List.{List, [], _∷_}
 use Prim.Native.Nat.{ℕ, _^_}
 use lib.Ieee.{Float, binary64, ofBits}
@@ -30,7 +30,7 @@ lentThree = stores (zeros 8) (zeros 2) (zeros 4) (zeros 3)
 
 -- the answer, and the stores after it
 abbrev pub threeBuilt : Headed
-threeBuilt = record { outcome = Done; head = record { count = 3; levels = 2; sizes = filled (255 ∷ 255 ∷ []) headSizes } }
+threeBuilt = record { outcome = Done; head = record { kind = 0; count = 3; levels = 2; sizes = filled (255 ∷ 255 ∷ []) headSizes } }
 
 abbrev pub threeLeft : Stores
 threeLeft = stores (0 ∷ 0 ∷ 0 ∷ 2 ^ 5 ∷ 2 ^ 58 ∷ 0 ∷ 2 ^ 63 ∷ 0 ∷ []) (0 ∷ 1 ∷ []) (zeros 4) (zeros 3)
@@ -45,7 +45,7 @@ abbrev pub lentPair : Stores
 lentPair = stores (zeros 4) (zeros 1) (zeros 4) (zeros 2)
 
 abbrev pub pairBuilt : Headed
-pairBuilt = record { outcome = Done; head = record { count = 2; levels = 1; sizes = filled (255 ∷ []) headSizes } }
+pairBuilt = record { outcome = Done; head = record { kind = 0; count = 2; levels = 1; sizes = filled (255 ∷ []) headSizes } }
 
 abbrev pub pairLeft : Stores
 pairLeft = stores (0 ∷ 0 ∷ 2 ^ 11 ∷ 2 ^ 5 ∷ []) (0 ∷ []) (zeros 4) (zeros 2)
@@ -64,7 +64,7 @@ abbrev pub lentNone : Stores
 lentNone = stores (zeros 4) (zeros 1) (zeros 4) []
 
 abbrev pub noneBuilt : Headed
-noneBuilt = record { outcome = Done; head = record { count = 0; levels = 1; sizes = filled (255 ∷ []) headSizes } }
+noneBuilt = record { outcome = Done; head = record { kind = 0; count = 0; levels = 1; sizes = filled (255 ∷ []) headSizes } }
 
 abbrev pub noneLeft : Stores
 noneLeft = stores (zeros 4) (zeros 1) (zeros 4) []
@@ -77,7 +77,7 @@ abbrev pub lentOne : Stores
 lentOne = stores (zeros 4) (zeros 1) (zeros 4) (zeros 1)
 
 abbrev pub oneBuilt : Headed
-oneBuilt = record { outcome = Done; head = record { count = 1; levels = 1; sizes = filled (255 ∷ []) headSizes } }
+oneBuilt = record { outcome = Done; head = record { kind = 0; count = 1; levels = 1; sizes = filled (255 ∷ []) headSizes } }
 
 abbrev pub oneLeft : Stores
 oneLeft = stores (0 ∷ 0 ∷ 2 ^ 11 ∷ 0 ∷ []) (0 ∷ []) (zeros 4) (zeros 1)

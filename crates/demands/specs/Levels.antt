@@ -6,6 +6,7 @@ use lib.Ieee.{Float}
 use lib.ListN.{length}
 use Rattle.laws.specs.Counting.{sum, chain}
 use Rattle.laws.specs.Stores.{filled}
+use Rattle.mixer.specs.declared.Kind.{Kind}
 use Rattle.head.specs.Index.{ruleOf}
 use Rattle.head.specs.Layout.{sizeAt, levelWords, levelSamples}
 use Rattle.head.specs.declared.Head.{Head}
@@ -14,18 +15,18 @@ use Rattle.rule.specs.Rule.{remaining, span, bit, ones}
 
 -- ---- the levels
 
--- Each level by the rule of an index, with the mixer's positions and the sizes of gamma, whatever gamma and the ids are.
-pub record EachLevel (gamma : Float) (ids : List ℕ) : Type 0 where
+-- Each level by the rule of an index, with the positions of a kind and the sizes of gamma, whatever the kind, gamma and the ids are.
+pub record EachLevel (kind : Kind) (gamma : Float) (ids : List ℕ) : Type 0 where
   -- the bits set in level i and the ids going on are as many as the ids that came in
   pub balance : (i : ℕ)
-      → ones (span (ruleOf gamma) ids) (bit (ruleOf gamma) ids) i + length (remaining (ruleOf gamma) ids (suc i)) ≡ length (remaining (ruleOf gamma) ids i)
+      → ones (span (ruleOf kind gamma) ids) (bit (ruleOf kind gamma) ids) i + length (remaining (ruleOf kind gamma) ids (suc i)) ≡ length (remaining (ruleOf kind gamma) ids i)
   -- sizes never rise
-  pub no-rise : (i j : ℕ) → i ≤ j → span (ruleOf gamma) ids j ≤ span (ruleOf gamma) ids i
+  pub no-rise : (i j : ℕ) → i ≤ j → span (ruleOf kind gamma) ids j ≤ span (ruleOf kind gamma) ids i
 
 -- The same of the levels that a build left: the ones in the words of level i, and the sizes in the head.
-pub record EachLevelLeft (gamma : Float) (ids : List ℕ) (head : Head) (words : List ℕ) : Type 0 where
+pub record EachLevelLeft (kind : Kind) (gamma : Float) (ids : List ℕ) (head : Head) (words : List ℕ) : Type 0 where
   pub balance : (i : ℕ) → i < head .levels
-      → setBits (levelWords (sizeAt (head .sizes)) words i) + length (remaining (ruleOf gamma) ids (suc i)) ≡ length (remaining (ruleOf gamma) ids i)
+      → setBits (levelWords (sizeAt (head .sizes)) words i) + length (remaining (ruleOf kind gamma) ids (suc i)) ≡ length (remaining (ruleOf kind gamma) ids i)
   pub no-rise : (i j : ℕ) → i ≤ j → j < head .levels → sizeAt (head .sizes) j ≤ sizeAt (head .sizes) i
 
 -- ---- samples come from the level words alone

@@ -4,14 +4,15 @@ use mathlib.Core.List.{List}
 use Prim.Native.Nat.{ℕ, _≤_, _<_}
 use lib.Ieee.{Float}
 use lib.ListN.{length, getD, take}
-use Rattle.build.specs.Build.{BuildEnd, buildAfter, buildCall}
+use Rattle.build.specs.Build.{BuildEnd, buildAfter}
 use Rattle.run.specs.Stores.{Stores, stores}
 use Rattle.laws.specs.Stores.{filled}
 use Rattle.head.specs.Layout.{usedWords, usedSamples}
 use Rattle.lookup.specs.Lookup.{lookupCall}
 use Rattle.rows.specs.Rows.{rowsCall}
 use Rattle.head.specs.declared.Head.{Head}
-use Rattle.demands.specs.Demands.{InBounds}
+use Rattle.mixer.specs.declared.Kind.{Kind}
+use Rattle.demands.specs.Demands.{buildBy, InBounds}
 
 -- ---- room beyond what is enough does not matter
 
@@ -29,9 +30,9 @@ pub record EndsAs (t : Stores) (a b : BuildEnd) : Type 0 where
   pub samples : b .after .stores .samples ≡ filled (a .after .stores .samples) (length (t .samples))
 
 -- A build in bounds that is not refused with 5 ends so in any stores in bounds that have at least as many words and samples.
-pub record MoreRoom (gamma : Float) (ids : List ℕ) (s t : Stores) : Type 0 where
-  pub ends-as : InBounds gamma ids s → InBounds gamma ids t → AtLeast s t → (buildCall gamma ids s .refusal ≡ 5 → ⊥)
-      → EndsAs t (buildCall gamma ids s) (buildCall gamma ids t)
+pub record MoreRoom (kind : Kind) (gamma : Float) (ids : List ℕ) (s t : Stores) : Type 0 where
+  pub ends-as : InBounds gamma ids s → InBounds gamma ids t → AtLeast s t → (buildBy kind gamma ids s .refusal ≡ 5 → ⊥)
+      → EndsAs t (buildBy kind gamma ids s) (buildBy kind gamma ids t)
 
 -- ---- only the used part of the stores matters
 

@@ -10,6 +10,7 @@ ghost use Rattle.finding.specs.Find.{answerOf, rowAnswer, findIn};
 use bounds::HEAD_SIZES;
 use bounds::MAX_IDS;
 use bounds::SAMPLE_BITS;
+use mixer::Kind;
 use mixer::hashmod;
 use ranks::ones_from;
 use ranks::part;
@@ -32,6 +33,7 @@ pub enum Found {
 
 // The row of an id, by the numbers of a head that fits.
 pub fn find(
+    kind: Kind,
     count: u64,
     levels: u64,
     sizes: &[u64; HEAD_SIZES],
@@ -40,7 +42,7 @@ pub fn find(
     id: u64,
 ) -> Found
     requires { ⌜ Fit count levels (now sizes) (length (now words)) (length (now samples)) ⌝ }
-    ensures { λ r. ⌜ answerOf r ≡ findIn position count (sizeAt (now (sizes .entry))) (now (words .entry)) (now (samples .entry)) id levels ⌝ }
+    ensures { λ r. ⌜ answerOf r ≡ findIn (position kind) count (sizeAt (now (sizes .entry))) (now (words .entry)) (now (samples .entry)) id levels ⌝ }
 {
     let mut at: usize = 0;
     let mut sampled: usize = 0;
@@ -48,7 +50,7 @@ pub fn find(
         let size = sizes[i];
         let taken = u64s(size) as usize;
         let level = part(words, at, taken);
-        let position = hashmod(i as u64, id, size);
+        let position = hashmod(kind, i as u64, id, size);
         let ranked = sizes::samples(taken as u64) as usize;
         if has_bit(level, position) {
             return row_at(

@@ -12,6 +12,7 @@ use Rattle.laws.proofs.Sums.{sum-same, sum-ones}
 use Rattle.laws.proofs.Chains.{length-chain}
 use Rattle.laws.proofs.Packing.{length-packed}
 use Rattle.laws.proofs.Parts.{drop-same}
+use Rattle.mixer.specs.declared.Kind.{Kind}
 use Rattle.mixer.proofs.Positions.{position-lt}
 use Rattle.ranks.proofs.Samples.{length-samples}
 use Rattle.rule.specs.Rule.{Rule, span, bit, base}
@@ -96,6 +97,6 @@ module _ (rule : Rule) (ids : List ℕ) where
 
 -- ---- the rule of an index
 
--- positions lie below sizes, and no size is 0
-pub rule-sound : (gamma : Float) → Sound (ruleOf gamma)
-rule-sound gamma = record { within = position-lt; positive = λ n. omega (arith, size-least gamma n) }
+-- positions of any kind lie below sizes, and no size is 0
+pub rule-sound : (kind : Kind) (gamma : Float) → Sound (ruleOf kind gamma)
+rule-sound kind gamma = record { within = position-lt kind; positive = λ n. omega (arith, size-least gamma n) }

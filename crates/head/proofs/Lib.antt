@@ -1,3 +1,4 @@
 pub mod Fits
 pub mod Indexes
+pub mod KindPassed
 pub mod Written

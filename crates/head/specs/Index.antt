@@ -7,20 +7,22 @@ use Rattle.bounds.specs.Bounds.{headSizes}
 use Rattle.laws.specs.Counting.{chain}
 use Rattle.laws.specs.Bits.{wordsFor, packed}
 use Rattle.laws.specs.Stores.{zeros, filled}
+use Rattle.mixer.specs.Kinds.{kindNumber}
 use Rattle.mixer.specs.Position.{position}
+use Rattle.mixer.specs.declared.Kind.{Kind}
 use Rattle.ranks.specs.Ranks.{samplesOf}
 use Rattle.rule.specs.Rule.{Rule, Room, span, bit, base}
 use Rattle.sizes.specs.Sizes.{sizeFor}
 use Rattle.head.specs.Layout.{samplesOfSize}
 use Rattle.head.specs.declared.Head.{Head}
 
--- the rule of positions of an index: builds and lookups take it from here
-abbrev pub positions : (level size id : ℕ) → ℕ
+-- the rule of positions of an index of a kind: builds and lookups take it from here
+abbrev pub positions : Kind → (level size id : ℕ) → ℕ
 positions = position
 
--- the rule of levels: positions, and the sizes of gamma
-abbrev pub ruleOf : Float → Rule
-ruleOf gamma = record { pos = positions; size = sizeFor gamma }
+-- the rule of levels: the positions of a kind, and the sizes of gamma
+abbrev pub ruleOf : Kind → Float → Rule
+ruleOf kind gamma = record { pos = positions kind; size = sizeFor gamma }
 
 -- the room that stores of so many words and samples have
 abbrev pub roomOf : ℕ → ℕ → Room
@@ -45,10 +47,10 @@ module _ (rule : Rule) (ids : List ℕ) where
   unfoldable pub indexSizes : ℕ → List ℕ
   indexSizes n = chain (λ i. span rule ids i ∷ []) n
 
-  -- the head of an index of n levels: unused sizes are 0
-  abbrev pub indexHead : ℕ → Head
-  indexHead n = record { count = length ids; levels = n; sizes = filled (indexSizes n) headSizes }
+  -- the head of an index of a kind and of n levels: unused sizes are 0
+  abbrev pub indexHead : Kind → ℕ → Head
+  indexHead kind n = record { kind = kindNumber kind; count = length ids; levels = n; sizes = filled (indexSizes n) headSizes }
 
 -- the head beside a refusal: all 0
 abbrev pub noHead : Head
-noHead = record { count = 0; levels = 0; sizes = zeros headSizes }
+noHead = record { kind = 0; count = 0; levels = 0; sizes = zeros headSizes }

@@ -50,11 +50,14 @@ bounded count levels sizes =
 abbrev pub usedOf : ℕ → List ℕ → Used
 usedOf levels sizes = record { words = wordStart (sizeAt sizes) levels; samples = sampleStart (sizeAt sizes) levels }
 
+abbrev pub usedBy : Head → Used
+usedBy head = usedOf (head .levels) (head .sizes)
+
 abbrev pub usedWords : Head → ℕ
-usedWords head = usedOf (head .levels) (head .sizes) .words
+usedWords head = usedBy head .words
 
 abbrev pub usedSamples : Head → ℕ
-usedSamples head = usedOf (head .levels) (head .sizes) .samples
+usedSamples head = usedBy head .samples
 
 -- whether each size past the levels of a head is 0
 abbrev pub unusedClear : ℕ → List ℕ → Bool

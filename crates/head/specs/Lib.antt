@@ -2,5 +2,6 @@
 pub mod Layout
 pub mod Index
 pub mod Numbers
+pub mod KindCheck
 -- What only serves inner contracts.
 pub mod Fit

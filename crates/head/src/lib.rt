@@ -18,8 +18,9 @@ use words::u64s;
 
 pub mod numbers;
 
-// The id count, the level count and the level sizes, of which the unused ones are 0.
+// The number of its kind of hash, the id count, the level count and the level sizes, of which the unused ones are 0.
 pub struct Head {
+    pub kind: u64,
     pub count: u64,
     pub levels: u64,
     pub sizes: [u64; HEAD_SIZES],
@@ -39,6 +40,7 @@ pub fn refused(why: Refusal) -> Headed
     Headed {
         outcome: Made::Refused(why),
         head: Head {
+            kind: 0,
             count: 0,
             levels: 0,
             sizes,

@@ -1,4 +1,4 @@
-// A head as numbers, one after another: id count, level count, sizes.
+// A head as numbers, one after another: kind, id count, level count, sizes.
 ghost use mathlib.Core.Path.{_≡_};
 ghost use Prim.Native.Nat.{_≤_, _<_};
 ghost use lib.ListN.{length, getD};
@@ -9,9 +9,9 @@ use crate::Head;
 use bounds::HEAD_SIZES;
 
 // How many numbers stand before the sizes, and how many a head is.
-const COUNTS: usize = 2;
+const BEFORE_SIZES: usize = 3;
 
-pub const NUMBERS: usize = COUNTS + HEAD_SIZES;
+pub const NUMBERS: usize = BEFORE_SIZES + HEAD_SIZES;
 
 // The head of so many numbers.
 pub fn read(numbers: &[u64]) -> Head
@@ -20,38 +20,43 @@ pub fn read(numbers: &[u64]) -> Head
 {
     let mut sizes = [0; HEAD_SIZES];
     for i in 0..HEAD_SIZES {
-        sizes[i] = numbers[COUNTS + i];
+        sizes[i] = numbers[BEFORE_SIZES + i];
     }
     Head {
-        count: numbers[0],
-        levels: numbers[1],
+        kind: numbers[0],
+        count: numbers[1],
+        levels: numbers[2],
         sizes,
     }
 }
 
 // Writes the numbers of a head to the front of a store.
-pub fn write(count: u64, levels: u64, sizes: &[u64; HEAD_SIZES], out: &mut [u64])
+pub fn write(kind: u64, count: u64, levels: u64, sizes: &[u64; HEAD_SIZES], out: &mut [u64])
     requires { ⌜ (length (now sizes) ≡ headSizes) × (headNumbers ≤ length (now out)) ⌝ }
     ensures { λ r. ⌜ now (out .exit)
-        ≡ fronted (numbersOf (record { count = count; levels = levels; sizes = now (sizes .entry) })) (now (out .entry)) ⌝ }
+        ≡ fronted (numbersOf (record { kind = kind; count = count; levels = levels; sizes = now (sizes .entry) })) (now (out .entry)) ⌝ }
 {
-    out[0] = count;
-    out[1] = levels;
+    out[0] = kind;
+    out[1] = count;
+    out[2] = levels;
     for i in 0..HEAD_SIZES {
-        out[COUNTS + i] = sizes[i];
+        out[BEFORE_SIZES + i] = sizes[i];
     }
 }
 
 // Number i of a head.
-pub fn at(count: u64, levels: u64, sizes: &[u64; HEAD_SIZES], i: usize) -> u64
+pub fn at(kind: u64, count: u64, levels: u64, sizes: &[u64; HEAD_SIZES], i: usize) -> u64
     requires { ⌜ (length (now sizes) ≡ headSizes) × (i < headNumbers) ⌝ }
-    ensures { λ r. ⌜ r ≡ getD (numbersOf (record { count = count; levels = levels; sizes = now (sizes .entry) })) i 0 ⌝ }
+    ensures { λ r. ⌜ r ≡ getD (numbersOf (record { kind = kind; count = count; levels = levels; sizes = now (sizes .entry) })) i 0 ⌝ }
 {
     if i == 0 {
-        return count;
+        return kind;
     }
     if i == 1 {
+        return count;
+    }
+    if i == 2 {
         return levels;
     }
-    sizes[i - COUNTS]
+    sizes[i - BEFORE_SIZES]
 }

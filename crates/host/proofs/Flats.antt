@@ -83,14 +83,14 @@ made-end : (answer : Made) (head : Head) (s : Stores) (out : List ℕ)
 made-end M.Done head s out = refl
 made-end (M.Refused r) head s out = refl
 
-module _ (gamma : Float) (ids : List ℕ) (s : Stores) (out : List ℕ) where
-  pub build-short : {n : ℕ} → length out < outPlaces → n ≡ refusedNumber (numberOf ShortOutput) → seen n (flatBuilt s out) ≡ flatBuild gamma ids s out
+module _ (number : ℕ) (gamma : Float) (ids : List ℕ) (s : Stores) (out : List ℕ) where
+  pub build-short : {n : ℕ} → length out < outPlaces → n ≡ refusedNumber (numberOf ShortOutput) → seen n (flatBuilt s out) ≡ flatBuild number gamma ids s out
   unfolding flatBuild
   build-short h e = rw (lt-leb outPlaces (length out) h, e)
 
   pub build-asked : {n value : ℕ} {out′ : List ℕ} (answer : Made) (head : Head) (after : Stores) → outPlaces ≤ length out → n ≡ ofMade answer
-      → value ≡ valueIn answer → builtOf answer head after ≡ buildCall gamma ids s
-      → out′ ≡ fronted (value ∷ numbersOf head) out → seen n (flatBuilt after out′) ≡ flatBuild gamma ids s out
+      → value ≡ valueIn answer → builtOf answer head after ≡ buildCall number gamma ids s
+      → out′ ≡ fronted (value ∷ numbersOf head) out → seen n (flatBuilt after out′) ≡ flatBuild number gamma ids s out
   unfolding flatBuild
   build-asked answer head after h e v f w =
       rw (le-leb outPlaces (length out) h, w, v, e) (made-end answer head after out ∙ ap (λ (b : BuildEnd). endSeen b out) f)

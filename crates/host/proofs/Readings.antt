@@ -1,5 +1,6 @@
 -- A host reads from the number alone what a call answered: no value is as large as the number of none or of a refusal. Assumes nothing.
 use mathlib.Core.Path.{_≡_, refl, sym, ap, _∙_}
+use mathlib.Core.Logic.{inl, inr}
 use mathlib.Core.Bool.{Bool, true, false}
 use mathlib.Core.List.{List}
 use mathlib.Core.Option.{some}
@@ -13,7 +14,7 @@ use Rattle.laws.specs.Counting.{rank}
 use Rattle.laws.proofs.Sums.{rank-le}
 use Rattle.refusal.specs.Table.{numberOf, valueOf}
 use Rattle.refusal.specs.declared.Refusal.{Refusal}
-use Rattle.refusal.specs.declared.Refusal.the-variants.{UnfitHead, UnfitSet, ShortOutput, UnfitContent}
+use Rattle.refusal.specs.declared.Refusal.the-variants.{UnfitHead, UnfitSet, ShortOutput, UnfitContent, UnknownKind}
 use Rattle.refusal.proofs.Apart.{numbered}
 use Rattle.refusal.specs.declared.Made.{Made}
 use Rattle.refusal.specs.declared.Made.the-variants as M
@@ -25,16 +26,22 @@ use Rattle.refusal.specs.Answers.{Outcome, untouched, counted, refused, check}
 use Rattle.bitvector.specs.Calls.{sound, lenCall, membersCall}
 use Rattle.bitvector.specs.Sets.{setOf}
 use Rattle.bitvector.proofs.Soundness.{sound-room}
+use Rattle.mixer.specs.Kinds.{kindOf}
+use Rattle.head.specs.KindCheck.{checkKind}
+use Rattle.mixer.specs.declared.Kind.{Kind}
+use Rattle.mixer.specs.declared.KindOf.{KindOf}
+use Rattle.mixer.specs.declared.KindOf.the-variants.{Known, Unknown}
+use Rattle.mixer.proofs.KindNumbers.{number-known, number-or-not}
 use Rattle.head.specs.declared.Head.{Head}
 use Rattle.finding.specs.declared.Found.{Found}
 use Rattle.finding.specs.declared.Found.the-variants as F
-use Rattle.head.specs.Layout.{sizeAt, usedOf, unusedClear, fit}
+use Rattle.head.specs.Layout.{sizeAt, usedOf, usedBy, unusedClear, fit}
 use Rattle.finding.specs.Find.{refusedFor, answerOf, rowIn}
 use Rattle.lookup.specs.Lookup.{lookupCall}
 use Rattle.head.proofs.Fits.{bounded-is, few-used, fit-known, measured-uses}
 use Rattle.block.specs.Block.{blockBytes}
-use Rattle.image.specs.Image.{imageBlocks, writeCall}
-use Rattle.lookup.proofs.Lookups.{lookup-fit, lookup-unfit}
+use Rattle.image.specs.Image.{form, imageBlocks, writeCall}
+use Rattle.lookup.proofs.Lookups.{lookup-unknown, lookup-fit, lookup-unfit}
 use Rattle.finding.proofs.Told.{found-below}
 use Rattle.host.specs.Numbers.{noneNumber, refusedNumber, ofMade, ofSaid, ofCounted, ofAnswer, value, noRow, refusal, reading, toldMade, toldSaid, toldCounted, toldFound}
 use Rattle.host.proofs.Answers.{refused-number}
@@ -80,6 +87,10 @@ module _ {After : Type 0} where
   low-check true reason s next v h = h refl
   low-check false reason s next v h = v
 
+  low-kind : (of : KindOf) (s : After) (next : Kind → Outcome After) → ((kind : Kind) → next kind .value ≤ maxBits) → checkKind of (refused s) next .value ≤ maxBits
+  low-kind Unknown s next h = lit≤ tt
+  low-kind (Known kind) s next h = h kind
+
 module _ (capacity : ℕ) (ws : List ℕ) where
   few-members : sound capacity ws ≡ true → rank (setOf capacity ws) capacity ≤ maxBits
   few-members s = omega (arith, rank-le (setOf capacity ws) capacity, sound-room capacity ws s .bound)
@@ -97,7 +108,7 @@ module _ (capacity : ℕ) (ws : List ℕ) where
 -- ---- a written image: no index takes so many blocks
 
 module _ (head : Head) (ws ss image : List ℕ) where
-  few-blocks : fit (head .count) (head .levels) (head .sizes) (length ws) (length ss) ≡ true → imageBlocks head ≤ maxBits
+  few-blocks : fit (head .count) (head .levels) (head .sizes) (length ws) (length ss) ≡ true → imageBlocks form (usedBy head) ≤ maxBits
   few-blocks e =
       let b = bounded-is (head .count) (head .levels) (head .sizes) (fit-known (head .count) (head .levels) (head .sizes) (length ws) (length ss) e .bounds) in
       let f = few-used (head .count) (head .levels) (head .sizes) (usedOf (head .levels) (head .sizes)) (measured-uses (head .count) (head .levels) (head .sizes) b) in
@@ -107,9 +118,10 @@ module _ (head : Head) (ws ss image : List ℕ) where
   unfolding writeCall
   write-read answer after e =
       counted-read answer after
-      (rw e (low-check (fit (head .count) (head .levels) (head .sizes) (length ws) (length ss)) UnfitHead image _ (lit≤ tt)
+      (rw e (low-kind (kindOf (head .kind)) image _
+      (λ kind. low-check (fit (head .count) (head .levels) (head .sizes) (length ws) (length ss)) UnfitHead image _ (lit≤ tt)
       (λ f. low-check (unusedClear (head .levels) (head .sizes)) UnfitContent image _ (lit≤ tt)
-      (λ u. low-check (leb (blockBytes * imageBlocks head) (length image)) ShortOutput image _ (lit≤ tt) (λ l. few-blocks f)))))
+      (λ u. low-check (leb (blockBytes * imageBlocks form (usedBy head)) (length image)) ShortOutput image _ (lit≤ tt) (λ l. few-blocks f))))))
 
 -- ---- a lookup: no row is as large as the id bound
 
@@ -118,14 +130,21 @@ module _ (head : Head) (ws ss : List ℕ) (x : ℕ) where
   fits = fit (head .count) (head .levels) (head .sizes) (length ws) (length ss)
 
   row-low : (r : ℕ) → rowIn (lookupCall head ws ss x) ≡ some r → r < maxIds
-  row-low r e = go fits refl
+  row-low r e =
+      elim (number-or-not (head .kind)) [
+        | inl (kind, k) ↦ go kind (ap kindOf k ∙ number-known kind) fits refl
+        | inr u ↦
+            let q : rowIn (refusedFor UnknownKind) ≡ some r = ap rowIn (lookup-unknown head ws ss x u) ∙ e in
+            let z : _≡_ {A = ℕ} 0 1 = cc in
+            absurd (omega arith)
+      ]
     where
-      go : (b : Bool) → fits ≡ b → r < maxIds
-      go true h =
+      go : (kind : Kind) → kindOf (head .kind) ≡ Known kind → (b : Bool) → fits ≡ b → r < maxIds
+      go kind k true h =
           let few = fit-known (head .count) (head .levels) (head .sizes) (length ws) (length ss) h .bounds .few-ids in
-          omega (arith, few, found-below _ (head .count) (sizeAt (head .sizes)) ws ss x (head .levels) r (ap rowIn (lookup-fit head ws ss x h) ∙ e))
-      go false h =
-          let q : rowIn (refusedFor UnfitHead) ≡ some r = ap rowIn (lookup-unfit head ws ss x h) ∙ e in
+          omega (arith, few, found-below _ (head .count) (sizeAt (head .sizes)) ws ss x (head .levels) r (ap rowIn (lookup-fit head ws ss x kind k h) ∙ e))
+      go kind k false h =
+          let q : rowIn (refusedFor UnfitHead) ≡ some r = ap rowIn (lookup-unfit head ws ss x kind k h) ∙ e in
           let z : _≡_ {A = ℕ} 0 1 = cc in
           absurd (omega arith)
 

@@ -55,10 +55,10 @@ outPlaces = 1 + headNumbers
 abbrev pub endSeen : BuildEnd → List ℕ → Seen FlatBuilt
 endSeen end out = seen (ofOutcome end) (flatBuilt (end .after .stores) (fronted (end .value ∷ numbersOf (end .after .head)) out))
 
-unfoldable pub flatBuild : Float → List ℕ → Stores → List ℕ → Seen FlatBuilt
-flatBuild gamma ids s out =
+unfoldable pub flatBuild : ℕ → Float → List ℕ → Stores → List ℕ → Seen FlatBuilt
+flatBuild number gamma ids s out =
     check (leb outPlaces (length out)) ShortOutput (seenRefused (flatBuilt s out))
-    (endSeen (buildCall gamma ids s) out)
+    (endSeen (buildCall number gamma ids s) out)
 
 -- ---- an image: what reading it leaves, with `out` as in a build; of writing it first the length of the head is asked
 

@@ -45,6 +45,13 @@ pub extern "C" fn shawltide_image_read(
     let outcome = loaded.outcome;
     let head = loaded.head;
     let sizes = head.sizes;
-    write_out(answer::value(outcome), head.count, head.levels, &sizes, out);
+    write_out(
+        answer::value(outcome),
+        head.kind,
+        head.count,
+        head.levels,
+        &sizes,
+        out,
+    );
     answer::made(outcome)
 }

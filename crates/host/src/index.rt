@@ -23,9 +23,10 @@ pub(crate) const OUT: usize = 1 + NUMBERS;
 // How many places the `place` of a lookup needs: level and position.
 const PLACE: usize = 2;
 
-// Builds an index of the ids: 0, or the refusal. `out` gets the value that refusal 5 or 6 carries, else 0, and the head.
+// Builds an index of the ids by a kind of hash: 0, or the refusal. `out` gets the value that refusal 5 or 6 carries, else 0, and the head.
 #[no_mangle]
 pub extern "C" fn shawltide_build(
+    kind: u64,
     gamma: f64,
     ids: &[u64],
     words: &mut [u64],
@@ -35,22 +36,30 @@ pub extern "C" fn shawltide_build(
     out: &mut [u64],
 ) -> u64
     ensures { λ r. ⌜ seen r (flatBuilt (stores (now (words .exit)) (now (samples .exit)) (now (collide .exit)) (now (rest .exit))) (now (out .exit)))
-        ≡ flatBuild gamma (now (ids .entry)) (stores (now (words .entry)) (now (samples .entry)) (now (collide .entry)) (now (rest .entry))) (now (out .entry)) ⌝ }
+        ≡ flatBuild kind gamma (now (ids .entry)) (stores (now (words .entry)) (now (samples .entry)) (now (collide .entry)) (now (rest .entry))) (now (out .entry)) ⌝ }
 {
     if out.len() < OUT {
         return refused(Refusal::ShortOutput);
     }
-    let built = build::build(gamma, ids, words, samples, collide, rest);
+    let built = build::build(kind, gamma, ids, words, samples, collide, rest);
     let outcome = built.outcome;
     let head = built.head;
     let sizes = head.sizes;
-    write_out(answer::value(outcome), head.count, head.levels, &sizes, out);
+    write_out(
+        answer::value(outcome),
+        head.kind,
+        head.count,
+        head.levels,
+        &sizes,
+        out,
+    );
     answer::made(outcome)
 }
 
 // The value and the head's numbers, at the front of `out`.
 pub(crate) fn write_out(
     value: u64,
+    kind: u64,
     count: u64,
     levels: u64,
     sizes: &[u64; HEAD_SIZES],
@@ -58,9 +67,9 @@ pub(crate) fn write_out(
 )
     requires { ⌜ (length (now sizes) ≡ headSizes) × (outPlaces ≤ length (now out)) ⌝ }
     ensures { λ r. ⌜ now (out .exit)
-        ≡ fronted (value ∷ numbersOf (record { count = count; levels = levels; sizes = now (sizes .entry) })) (now (out .entry)) ⌝ }
+        ≡ fronted (value ∷ numbersOf (record { kind = kind; count = count; levels = levels; sizes = now (sizes .entry) })) (now (out .entry)) ⌝ }
 {
-    numbers::write(count, levels, sizes, &mut out[1..]);
+    numbers::write(kind, count, levels, sizes, &mut out[1..]);
     out[0] = value;
 }
 

@@ -18,24 +18,24 @@ module _ (head : Head) (l : length (head .sizes) ≡ headSizes) (ws ss : List �
   unfolding contentOf
   content-form h = let e : c ≡ 0 = omega arith in rw e
 
-  pub content-head : headPlace ≤ c → c < wordsPlace → getD (numbersOf head) (c - headPlace) 0 ≡ contentOf head ws ss c
+  pub content-head : headPlace ≤ c → c < wordsPlace form → getD (numbersOf head) (c - headPlace) 0 ≡ contentOf head ws ss c
   unfolding contentOf
   content-head h k =
       let e : suc (c - headPlace) ≡ c = omega arith in
       ap (λ (i : ℕ). getD front i 0) e ∙ sym (List·getD-append front (ws ++ ss) 0 c (omega arith))
 
-  content-past : wordsPlace ≤ c → contentOf head ws ss c ≡ getD (ws ++ ss) (c - wordsPlace) 0
+  content-past : wordsPlace form ≤ c → contentOf head ws ss c ≡ getD (ws ++ ss) (c - wordsPlace form) 0
   unfolding contentOf
   content-past h =
-      let e : c - length front ≡ c - wordsPlace = omega arith in
+      let e : c - length front ≡ c - wordsPlace form = omega arith in
       append-past front (ws ++ ss) c (omega arith) ∙ ap (λ (k : ℕ). getD (ws ++ ss) k 0) e
 
-  pub content-word : wordsPlace ≤ c → c - wordsPlace < length ws → getD ws (c - wordsPlace) 0 ≡ contentOf head ws ss c
-  content-word h k = sym (content-past h ∙ List·getD-append ws ss 0 (c - wordsPlace) k)
+  pub content-word : wordsPlace form ≤ c → c - wordsPlace form < length ws → getD ws (c - wordsPlace form) 0 ≡ contentOf head ws ss c
+  content-word h k = sym (content-past h ∙ List·getD-append ws ss 0 (c - wordsPlace form) k)
 
-  module _ (h : wordsPlace ≤ c) (k : length ws ≤ c - wordsPlace) where
-    pub content-sample : getD ss (c - wordsPlace - length ws) 0 ≡ contentOf head ws ss c
-    content-sample = sym (content-past h ∙ append-past ws ss (c - wordsPlace) k)
+  module _ (h : wordsPlace form ≤ c) (k : length ws ≤ c - wordsPlace form) where
+    pub content-sample : getD ss (c - wordsPlace form - length ws) 0 ≡ contentOf head ws ss c
+    content-sample = sym (content-past h ∙ append-past ws ss (c - wordsPlace form) k)
 
-    pub content-none : length ss ≤ c - wordsPlace - length ws → 0 ≡ contentOf head ws ss c
+    pub content-none : length ss ≤ c - wordsPlace form - length ws → 0 ≡ contentOf head ws ss c
     content-none m = sym (List·getD-eq-default ss 0 m) ∙ content-sample

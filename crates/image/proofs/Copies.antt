@@ -1,7 +1,6 @@
 -- A content copied word by word to the front of a store, with 0 past it. Assumes nothing.
 use mathlib.Core.Path.{_≡_, refl, sym, ap, ap₂, _∙_}
-use mathlib.Core.Bool.{cond}
-use mathlib.Core.List.{List, [], _∷_, _++_, append-nil}
+use mathlib.Core.List.{List, _++_, append-nil}
 use Prim.Native.Nat.{ℕ, _+_, _-_, _≤_, _<_}
 use native.Mathlib.Nat.{le-refl}
 use native.Mathlib.Numerals.{add-one}
@@ -12,7 +11,6 @@ use Rattle.laws.specs.Counting.{each}
 use Rattle.laws.specs.Stores.{zeros, fronted, filled}
 use Rattle.laws.proofs.Chains.{each-suc, length-each, each-split, each-same, each-const}
 use Rattle.laws.proofs.Parts.{front-more}
-use Rattle.block.specs.Block.{contentAt}
 use Rattle.image.specs.Image.{contentFrom}
 use Rattle.image.specs.Steps.{wordOrZero}
 

@@ -1,62 +1,76 @@
 -- An image of an index: its content, laid out in blocks of bytes; how it is written, and how it is read.
-use Prim.Native.Nat.{ℕ, _+_, _*_, _/_, _%_}
-use mathlib.Core.Bool.{Bool, _&&_}
+use Prim.Native.Nat.{ℕ, _+_, _-_, _*_, _/_, _%_}
+use mathlib.Core.Bool.{Bool, cond, _&&_, _||_}
 use mathlib.Core.List.{List, _∷_, _++_}
 use lib.Dec.{eqb, leb}
 use lib.ListN.{length, getD, take}
 use Rattle.laws.specs.Counting.{each, isClear}
-use Rattle.laws.specs.Stores.{filled, fronted}
+use Rattle.laws.specs.Stores.{zeros, filled, fronted}
 use Rattle.refusal.specs.Answers.{Outcome, made, answered, refused, check}
 use Rattle.refusal.specs.declared.Made.{Made}
 use Rattle.refusal.specs.declared.Made.the-variants.{Done, Refused}
 use Rattle.refusal.specs.declared.Refusal.the-variants.{UnfitHead, ShortOutput, UnfitLength, BadBlock, UnfitContent}
+use Rattle.mixer.specs.Kinds.{kindOf}
+use Rattle.head.specs.KindCheck.{checkKind}
 use Rattle.head.specs.declared.Head.{Head}
+use Rattle.head.specs.declared.Used.{Used}
 use Rattle.head.specs.Index.{noHead}
-use Rattle.head.specs.Layout.{bounded, usedWords, usedSamples, unusedClear, fit}
+use Rattle.head.specs.Layout.{bounded, usedOf, usedBy, usedWords, usedSamples, unusedClear, fit}
 use Rattle.head.specs.Numbers.{headNumbers, numbersOf, headOf}
 use Rattle.block.specs.Bytes.{allBytes}
 use Rattle.block.specs.Block.{blockContent, blockBytes, blocksFor, imageWords, firstBad, contentAt}
 
 -- ---- the content
 
--- the number that a content begins with
+-- The number that a content begins with is its form: what is written is of form 2. Form 1 is older, and has no kind.
 abbrev pub form : ℕ
-form = 1
+form = 2
 
--- where the head begins in the content, where the words of the levels, where the samples, and where the content ends
+abbrev pub olderForm : ℕ
+olderForm = 1
+
+abbrev pub isForm : ℕ → Bool
+isForm f = eqb f form || eqb f olderForm
+
+-- where the head begins in the content, and how many of its first numbers a form leaves out: the older one the kind, which is 0 then
 abbrev pub headPlace : ℕ
 headPlace = 1
 
-abbrev pub wordsPlace : ℕ
-wordsPlace = headPlace + headNumbers
+abbrev pub leftOut : ℕ → ℕ
+leftOut f = cond (eqb f olderForm) 1 0
 
-abbrev pub samplesPlace : Head → ℕ
-samplesPlace head = wordsPlace + usedWords head
+-- in a content of a form, where the words of the levels begin, where the samples, and where the content ends
+abbrev pub wordsPlace : ℕ → ℕ
+wordsPlace f = headPlace + (headNumbers - leftOut f)
 
-abbrev pub contentEnd : Head → ℕ
-contentEnd head = samplesPlace head + usedSamples head
+abbrev pub samplesPlace : ℕ → Used → ℕ
+samplesPlace f used = wordsPlace f + used .words
+
+abbrev pub contentEnd : ℕ → Used → ℕ
+contentEnd f used = samplesPlace f used + used .samples
 
 -- how many blocks the image of an index takes
-abbrev pub imageBlocks : Head → ℕ
-imageBlocks head = blocksFor (contentEnd head)
+abbrev pub imageBlocks : ℕ → Used → ℕ
+imageBlocks f used = blocksFor (contentEnd f used)
 
--- a content: the form, the numbers of a head, some words and some samples; 0 past its end
+-- a content as it is written: the form, the numbers of a head, some words and some samples; 0 past its end
 unfoldable pub contentOf : Head → List ℕ → List ℕ → ℕ → ℕ
 contentOf head ws ss c = getD (form ∷ (numbersOf head ++ (ws ++ ss))) c 0
 
 -- the image of an index: of its words and samples, the content has those that its levels use
 unfoldable pub imageOf : Head → List ℕ → List ℕ → List ℕ
-imageOf head ws ss = allBytes (imageWords (contentOf head (take (usedWords head) ws) (take (usedSamples head) ss)) (imageBlocks head))
+imageOf head ws ss = allBytes (imageWords (contentOf head (take (usedWords head) ws) (take (usedSamples head) ss)) (imageBlocks form (usedBy head)))
 
 -- ---- writing
 
 -- An index is written to the front of a byte store, and the blocks are counted: the checks in their order, which leave the store as it was.
 unfoldable pub writeCall : Head → List ℕ → List ℕ → List ℕ → Outcome (List ℕ)
 writeCall head ws ss image =
+    checkKind (kindOf (head .kind)) (refused image) λ kind.
     check (fit (head .count) (head .levels) (head .sizes) (length ws) (length ss)) UnfitHead (refused image)
     (check (unusedClear (head .levels) (head .sizes)) UnfitContent (refused image)
-    (check (leb (blockBytes * imageBlocks head) (length image)) ShortOutput (refused image)
-    (answered (imageBlocks head) (fronted (imageOf head ws ss) image))))
+    (check (leb (blockBytes * imageBlocks form (usedBy head)) (length image)) ShortOutput (refused image)
+    (answered (imageBlocks form (usedBy head)) (fronted (imageOf head ws ss) image))))
 
 -- ---- reading
 
@@ -81,25 +95,30 @@ module _ (image : List ℕ) where
   abbrev pub contentFrom : ℕ → ℕ → List ℕ
   contentFrom c n = each (λ i. contentAt image (c + i)) n
 
-  -- the head, the words and the samples
+  -- the form; the numbers of the head, of which those that the form leaves out are 0, and the head; the words and the samples
+  abbrev pub formIn : ℕ
+  formIn = contentAt image 0
+
+  abbrev pub numbersIn : List ℕ
+  numbersIn = zeros (leftOut formIn) ++ contentFrom headPlace (headNumbers - leftOut formIn)
+
   abbrev pub headIn : Head
-  headIn = headOf (contentFrom headPlace headNumbers)
+  headIn = headOf numbersIn
 
   abbrev pub wordsIn : List ℕ
-  wordsIn = contentFrom wordsPlace (usedWords headIn)
+  wordsIn = contentFrom (wordsPlace formIn) (usedWords headIn)
 
   abbrev pub samplesIn : List ℕ
-  samplesIn = contentFrom (samplesPlace headIn) (usedSamples headIn)
+  samplesIn = contentFrom (samplesPlace formIn (usedBy headIn)) (usedSamples headIn)
 
-  -- Whether the blocks hold an index, `head` being the head in them: the content begins with the form, the head keeps its bounds and its unused sizes are 0, there are as many blocks as it takes, and
-  -- what is past the content is 0.
-  unfoldable pub holdsIndex : Head → Bool
-  holdsIndex head =
-      eqb (contentAt image 0) form
-      && bounded (head .count) (head .levels) (head .sizes)
-      && unusedClear (head .levels) (head .sizes)
-      && eqb blockCount (imageBlocks head)
-      && isClear (contentAt image) (contentEnd head) (blockContent * blockCount)
+  -- Whether the blocks hold an index, with these the numbers of the head in them: they keep their bounds and the unused sizes are 0, there are as many blocks
+  -- as it takes, and what is past the content is 0.
+  unfoldable pub holdsIndex : ℕ → ℕ → List ℕ → Bool
+  holdsIndex count levels sizes =
+      bounded count levels sizes
+      && unusedClear levels sizes
+      && eqb blockCount (imageBlocks formIn (usedOf levels sizes))
+      && isClear (contentAt image) (contentEnd formIn (usedOf levels sizes)) (blockContent * blockCount)
 
 -- the checks of the length and of the blocks
 unfoldable pub blockChecks : List ℕ → Made
@@ -121,16 +140,19 @@ readAfter head ws ss = record { head = head; words = ws; samples = ss }
 abbrev pub readOf : Made → Head → List ℕ → List ℕ → Outcome ReadAfter
 readOf answer head ws ss = made answer (readAfter head ws ss)
 
--- An image is read into a word and a sample store: the checks in their order, which leave the stores as they were and answer a head of 0; then the head, and the words and samples at the front of the
--- stores, with 0 past them.
+-- what comes after the checks of the blocks: the form, the kind, and what the content holds; then room
 abbrev pub afterBlocks : Made → List ℕ → List ℕ → List ℕ → Outcome ReadAfter
 afterBlocks (Refused why) image ws ss = refused (readAfter noHead ws ss) why
 afterBlocks Done image ws ss =
     let as-they-were = refused (readAfter noHead ws ss) in
     let head = headIn image in
-    check (holdsIndex image head) UnfitContent as-they-were
+    check (isForm (formIn image)) UnfitContent as-they-were
+    (checkKind (kindOf (head .kind)) as-they-were λ kind.
+    check (holdsIndex image (head .count) (head .levels) (head .sizes)) UnfitContent as-they-were
     (check (leb (usedWords head) (length ws) && leb (usedSamples head) (length ss)) ShortOutput as-they-were
-    (answered 0 (readAfter head (filled (wordsIn image) (length ws)) (filled (samplesIn image) (length ss)))))
+    (answered 0 (readAfter head (filled (wordsIn image) (length ws)) (filled (samplesIn image) (length ss))))))
 
+-- An image is read into a word and a sample store: the checks in their order, which leave the stores as they were and answer a head of 0; then the head,
+-- and the words and samples at the front of the stores, with 0 past them.
 unfoldable pub readCall : List ℕ → List ℕ → List ℕ → Outcome ReadAfter
 readCall image ws ss = afterBlocks (blockChecks image) image ws ss

@@ -6,7 +6,6 @@ use mathlib.Core.List.{List}
 use lib.Dec.{ltb}
 use Rattle.laws.specs.Counting.{each}
 use Rattle.laws.specs.Stores.{pasted}
-use Rattle.head.specs.declared.Head.{Head}
 use Rattle.head.specs.declared.Measured.{Measured}
 use Rattle.head.specs.declared.Measured.the-variants.{Uses, Unfit}
 use Rattle.head.specs.Layout.{usedOf}
@@ -23,9 +22,9 @@ pub record Contented (content : ℕ → ℕ) (b : ℕ) (image : List ℕ) (told 
 
 -- ---- reading
 
--- what is found of an image, `head` being the head in it: it holds an index, whose levels use so much, or none
-unfoldable pub contentMeasured : List ℕ → Head → Measured
-contentMeasured image head = cond (holdsIndex image head) (Uses (usedOf (head .levels) (head .sizes))) Unfit
+-- what is found of an image, with these the numbers of the head in it: it holds an index, whose levels use so much, or none
+unfoldable pub contentMeasured : List ℕ → ℕ → ℕ → List ℕ → Measured
+contentMeasured image count levels sizes = cond (holdsIndex image count levels sizes) (Uses (usedOf levels sizes)) Unfit
 
 -- word i of n content words from a place on; 0 past them
 abbrev pub wordOrZero : List ℕ → ℕ → ℕ → ℕ → ℕ

@@ -5,10 +5,11 @@ ghost use lib.ListN.{length};
 ghost use Rattle.laws.specs.Counting.{isClear};
 ghost use Rattle.laws.specs.Stores.{filled};
 ghost use Rattle.block.specs.Block.{blockContent, blockBytes, contentAt};
-ghost use Rattle.image.specs.Image.{minBlocks, blockCount, contentFrom, headIn, blockChecks, readOf, readCall};
+ghost use Rattle.image.specs.Image.{isForm, leftOut, wordsPlace, minBlocks, blockCount, contentFrom, formIn, headIn, blockChecks, readOf, readCall};
 ghost use Rattle.image.specs.Steps.{contentMeasured, wordOrZero};
 use crate::FORM;
 use crate::HEAD_PLACE;
+use crate::OLDER_FORM;
 use crate::WORDS_PLACE;
 use block::BLOCK_BYTES;
 use block::BLOCK_CONTENT;
@@ -24,6 +25,8 @@ use head::numbers;
 use head::numbers::NUMBERS;
 use head::refused;
 use head::unused_clear;
+use mixer::KindOf;
+use mixer::kind_of;
 use refusal::Made;
 use refusal::Refusal;
 
@@ -39,9 +42,16 @@ pub fn read(image: &[u8], words: &mut [u64], samples: &mut [u64]) -> Headed
     if let Made::Refused(why) = checked {
         return refused(why);
     }
-    let head = head_in(image);
+    let form = content_at(image, 0);
+    if !is_form(form) {
+        return refused(Refusal::UnfitContent);
+    }
+    let head = head_in(image, form);
+    let KindOf::Known(_) = kind_of(head.kind) else {
+        return refused(Refusal::UnknownKind);
+    };
     let sizes = head.sizes;
-    let Measured::Uses(used) = check_content(image, head.count, head.levels, &sizes) else {
+    let Measured::Uses(used) = check_content(image, form, head.count, head.levels, &sizes) else {
         return refused(Refusal::UnfitContent);
     };
     if used.words > words.len() as u64 {
@@ -51,13 +61,9 @@ pub fn read(image: &[u8], words: &mut [u64], samples: &mut [u64]) -> Headed
         return refused(Refusal::ShortOutput);
     }
     let word_end = used.words as usize;
-    copy_content(image, WORDS_PLACE, word_end, words);
-    copy_content(
-        image,
-        WORDS_PLACE + word_end,
-        used.samples as usize,
-        samples,
-    );
+    let start = words_place(form);
+    copy_content(image, start, word_end, words);
+    copy_content(image, start + word_end, used.samples as usize, samples);
     Headed {
         outcome: Made::Done,
         head,
@@ -82,31 +88,56 @@ fn check_blocks(image: &[u8]) -> Made
     Made::Done
 }
 
-// The head.
-fn head_in(image: &[u8]) -> Head
-    requires { ⌜ blockBytes * minBlocks ≤ length (now image) ⌝ }
+// Whether a content can begin with this number.
+fn is_form(form: u64) -> bool
+    ensures { λ r. ⌜ r ≡ isForm form ⌝ }
+{
+    form == FORM || form == OLDER_FORM
+}
+
+// How many of the first numbers of a head a form leaves out.
+fn left_out(form: u64) -> usize
+    ensures { λ r. ⌜ r ≡ leftOut form ⌝ }
+{
+    if form == OLDER_FORM { 1 } else { 0 }
+}
+
+// Where the words of the levels begin in a content of this form.
+fn words_place(form: u64) -> usize
+    ensures { λ r. ⌜ r ≡ wordsPlace form ⌝ }
+{
+    WORDS_PLACE - left_out(form)
+}
+
+// The head, in a content of this form.
+fn head_in(image: &[u8], form: u64) -> Head
+    requires { ⌜ (blockBytes * minBlocks ≤ length (now image)) × (form ≡ formIn (now image)) ⌝ }
     ensures { λ r. ⌜ r ≡ headIn (now (image .entry)) ⌝ }
 {
     let mut found = [0; NUMBERS];
-    copy_content(image, HEAD_PLACE, NUMBERS, &mut found);
+    let skipped = left_out(form);
+    copy_content(image, HEAD_PLACE, NUMBERS - skipped, &mut found[skipped..]);
     numbers::read(&found)
 }
 
 // Whether the blocks hold an index, with these the numbers of the head in them, and what its levels use.
-fn check_content(image: &[u8], count: u64, levels: u64, sizes: &[u64; HEAD_SIZES]) -> Measured
-    requires { ⌜ blockBytes * minBlocks ≤ length (now image) ⌝ }
-    ensures { λ r. ⌜ r ≡ contentMeasured (now (image .entry)) (record { count = count; levels = levels; sizes = now (sizes .entry) }) ⌝ }
+fn check_content(
+    image: &[u8],
+    form: u64,
+    count: u64,
+    levels: u64,
+    sizes: &[u64; HEAD_SIZES],
+) -> Measured
+    requires { ⌜ form ≡ formIn (now image) ⌝ }
+    ensures { λ r. ⌜ r ≡ contentMeasured (now (image .entry)) count levels (now (sizes .entry)) ⌝ }
 {
-    if content_at(image, 0) != FORM {
-        return Measured::Unfit;
-    }
     let Measured::Uses(used) = measure(count, levels, sizes) else {
         return Measured::Unfit;
     };
     if !unused_clear(levels, sizes) {
         return Measured::Unfit;
     }
-    let end = WORDS_PLACE as u64 + used.words + used.samples;
+    let end = words_place(form) as u64 + used.words + used.samples;
     let blocks = image.len() / BLOCK_BYTES;
     if blocks as u64 != blocks_for(end) {
         return Measured::Unfit;

@@ -25,6 +25,8 @@ use head::Measured;
 use head::measure;
 use head::numbers;
 use head::unused_clear;
+use mixer::KindOf;
+use mixer::kind_of;
 use refusal::Counted;
 use refusal::Refusal;
 
@@ -32,6 +34,9 @@ use refusal::Refusal;
 pub fn write(head: Head, words: &[u64], samples: &[u64], image: &mut [u8]) -> Counted
     ensures { λ r. ⌜ counted r (now (image .exit)) ≡ writeCall head (now (words .entry)) (now (samples .entry)) (now (image .entry)) ⌝ }
 {
+    let KindOf::Known(_) = kind_of(head.kind) else {
+        return Counted::Refused(Refusal::UnknownKind);
+    };
     let sizes = head.sizes;
     let Measured::Uses(used) = measure(head.count, head.levels, &sizes) else {
         return Counted::Refused(Refusal::UnfitHead);
@@ -52,6 +57,7 @@ pub fn write(head: Head, words: &[u64], samples: &[u64], image: &mut [u8]) -> Co
     let word_end = used.words as usize;
     let sample_end = used.samples as usize;
     write_blocks(
+        head.kind,
         head.count,
         head.levels,
         &sizes,
@@ -65,6 +71,7 @@ pub fn write(head: Head, words: &[u64], samples: &[u64], image: &mut [u8]) -> Co
 
 // Writes the n blocks of a content, one after another.
 fn write_blocks(
+    kind: u64,
     count: u64,
     levels: u64,
     sizes: &[u64; HEAD_SIZES],
@@ -75,16 +82,17 @@ fn write_blocks(
 )
     requires { ⌜ (length (now sizes) ≡ headSizes) × (blockBytes * n ≤ length (now image)) ⌝ }
     ensures { λ _. ⌜ now (image .exit)
-        ≡ fronted (allBytes (imageWords (contentOf (record { count = count; levels = levels; sizes = now (sizes .entry) })
+        ≡ fronted (allBytes (imageWords (contentOf (record { kind = kind; count = count; levels = levels; sizes = now (sizes .entry) })
         (now (words .entry)) (now (samples .entry))) n)) (now (image .entry)) ⌝ }
 {
     for b in 0..n {
-        write_block(count, levels, sizes, words, samples, b, image);
+        write_block(kind, count, levels, sizes, words, samples, b, image);
     }
 }
 
 // Writes block b: its number, its content and its check.
 fn write_block(
+    kind: u64,
     count: u64,
     levels: u64,
     sizes: &[u64; HEAD_SIZES],
@@ -95,17 +103,18 @@ fn write_block(
 )
     requires { ⌜ (length (now sizes) ≡ headSizes) × (blockBytes * b + blockBytes ≤ length (now image)) ⌝ }
     ensures { λ _. ⌜ now (image .exit)
-        ≡ pasted (blockBytes * b) (allBytes (blockOf (contentOf (record { count = count; levels = levels; sizes = now (sizes .entry) })
+        ≡ pasted (blockBytes * b) (allBytes (blockOf (contentOf (record { kind = kind; count = count; levels = levels; sizes = now (sizes .entry) })
         (now (words .entry)) (now (samples .entry))) b)) (now (image .entry)) ⌝ }
 {
     let first = BLOCK_WORDS * b;
     put_word(image, first, b as u64);
-    let check = write_content(count, levels, sizes, words, samples, b, image);
+    let check = write_content(kind, count, levels, sizes, words, samples, b, image);
     put_word(image, first + CHECK_PLACE, check);
 }
 
 // Writes the content of block b behind its number; the check of both.
 fn write_content(
+    kind: u64,
     count: u64,
     levels: u64,
     sizes: &[u64; HEAD_SIZES],
@@ -115,14 +124,14 @@ fn write_content(
     image: &mut [u8],
 ) -> u64
     requires { ⌜ (length (now sizes) ≡ headSizes) × (blockBytes * b + blockBytes ≤ length (now image)) ⌝ }
-    ensures { λ r. ⌜ Contented (contentOf (record { count = count; levels = levels; sizes = now (sizes .entry) })
+    ensures { λ r. ⌜ Contented (contentOf (record { kind = kind; count = count; levels = levels; sizes = now (sizes .entry) })
         (now (words .entry)) (now (samples .entry))) b (now (image .entry)) r (now (image .exit)) ⌝ }
 {
     let first = BLOCK_WORDS * b + 1;
     let from = BLOCK_CONTENT * b;
     let mut check = check_step(0, b as u64);
     for k in 0..BLOCK_CONTENT {
-        let word = content_word(count, levels, sizes, words, samples, from + k);
+        let word = content_word(kind, count, levels, sizes, words, samples, from + k);
         put_word(image, first + k, word);
         check = check_step(check, word);
     }
@@ -131,6 +140,7 @@ fn write_content(
 
 // Word c of the content.
 fn content_word(
+    kind: u64,
     count: u64,
     levels: u64,
     sizes: &[u64; HEAD_SIZES],
@@ -139,14 +149,14 @@ fn content_word(
     c: usize,
 ) -> u64
     requires { ⌜ length (now sizes) ≡ headSizes ⌝ }
-    ensures { λ r. ⌜ r ≡ contentOf (record { count = count; levels = levels; sizes = now (sizes .entry) })
+    ensures { λ r. ⌜ r ≡ contentOf (record { kind = kind; count = count; levels = levels; sizes = now (sizes .entry) })
         (now (words .entry)) (now (samples .entry)) c ⌝ }
 {
     if c < HEAD_PLACE {
         return FORM;
     }
     if c < WORDS_PLACE {
-        return numbers::at(count, levels, sizes, c - HEAD_PLACE);
+        return numbers::at(kind, count, levels, sizes, c - HEAD_PLACE);
     }
     let w = c - WORDS_PLACE;
     if w < words.len() {

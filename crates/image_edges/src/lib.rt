@@ -6,3 +6,5 @@ pub mod places;
 pub use indexes::write_index;
 pub use indexes::written;
 pub use lines::read;
+pub use lines::read_changed;
+pub use lines::show;

@@ -1,9 +1,9 @@
--- What the facts of images ask for can be had: the image of three ids, and two lists that differ once. Assumes nothing.
-use mathlib.Core.Path.{_≡_, refl, ap}
+-- What the facts of images ask for can be had: the image of three ids, of either form, and two lists that differ once. Assumes nothing.
+use mathlib.Core.Path.{_≡_, refl, ap, subst}
 use mathlib.Core.Bool.{Bool, true, _&&_}
 use mathlib.Core.Logic.{inl}
 use mathlib.Core.List.{List, [], _∷_, _++_}
-use Prim.Native.Nat.{ℕ, zero, suc, _^_, _<_}
+use Prim.Native.Nat.{ℕ, zero, suc, _^_}
 use native.Mathlib.Omega.{arith}
 use borrow.Author.Tests.{ltb-true}
 use lib.Dec.{ltb, lit<, lit≤}
@@ -17,15 +17,15 @@ use Rattle.refusal.specs.Answers.{Outcome, answered, refused}
 use Rattle.refusal.specs.declared.Refusal.the-variants.{ShortOutput, BadBlock}
 use Rattle.head.specs.Index.{noHead}
 use Rattle.block.specs.Bytes.{allBytes, wordAt}
-use Rattle.block.specs.Block.{checkOf}
+use Rattle.block.specs.Block.{checkOf, contentAt}
 use Rattle.block.specs.Differ.{DifferOnce}
 use Rattle.block.proofs.Whole.{bytes-small}
 use Rattle.image.specs.Image.{ReadAfter, readAfter, readCall}
-use Rattle.keeping.specs.Images.{Lent, ReadsBack, SameAgain, withWord, ChangeFound}
+use Rattle.keeping.specs.Images.{Lent, ReadsBack, Again, withWord, ChangeFound}
 use Rattle.demands.specs.Inputs.{threeBuilt, threeLeft}
-use Rattle.keeping.specs.Inputs.{threeImage}
+use Rattle.keeping.specs.Inputs.{threeImage, olderThree}
 use Rattle.keeping.proofs.Images.{images}
-use Rattle.keeping.proofs.ImageTable.{three-written, three-read}
+use Rattle.keeping.proofs.ImageTable.{three-written, three-read, older-read, older-again}
 
 abbrev areWords : List ℕ → Bool
 areWords [] = true
@@ -62,8 +62,21 @@ no-room = held .no-room (replicate 7 9) (replicate 3 9) (inl (lit< tt))
 accepted : readCall (allBytes threeImage) (replicate 9 9) (replicate 3 9) .refusal ≡ 0
 accepted = ap (λ (r : Outcome ReadAfter). r .refusal) three-read
 
-same : SameAgain (allBytes threeImage) (replicate 9 9) (replicate 3 9)
-same = images .again (allBytes threeImage) (replicate 9 9) (replicate 3 9) (bytes-small threeImage) accepted
+same : Again (allBytes threeImage) (replicate 9 9) (replicate 3 9) (allBytes threeImage)
+unfolding allBytes contentAt wordAt
+same =
+    let again = images .again (allBytes threeImage) (replicate 9 9) (replicate 3 9) (bytes-small threeImage) accepted in
+    subst (Again (allBytes threeImage) (replicate 9 9) (replicate 3 9)) (again .same-bytes refl) again
+
+-- and one of the older form is accepted: written again, it is that one
+
+older-accepted : readCall (allBytes olderThree) (replicate 9 9) (replicate 3 9) .refusal ≡ 0
+older-accepted = ap (λ (r : Outcome ReadAfter). r .refusal) older-read
+
+older : Again (allBytes olderThree) (replicate 9 9) (replicate 3 9) (allBytes threeImage)
+older =
+    subst (Again (allBytes olderThree) (replicate 9 9) (replicate 3 9)) older-again
+    (images .again (allBytes olderThree) (replicate 9 9) (replicate 3 9) (bytes-small olderThree) older-accepted)
 
 -- ---- with another word it is refused: another number of block 0, another check of it, another sample
 
@@ -78,9 +91,9 @@ check-found : readCall (withWord (allBytes threeImage) 63 0) [] [] ≡ refused (
 unfolding allBytes wordAt
 check-found = found 63 0 (lit< tt) (lit< tt) (λ e. omega arith) [] []
 
-sample-found : readCall (withWord (allBytes threeImage) 115 2) [] [] ≡ refused (readAfter noHead [] []) (BadBlock 1)
+sample-found : readCall (withWord (allBytes threeImage) 116 2) [] [] ≡ refused (readAfter noHead [] []) (BadBlock 1)
 unfolding allBytes wordAt
-sample-found = found 115 2 (lit< tt) (lit< tt) (λ e. omega arith) [] []
+sample-found = found 116 2 (lit< tt) (lit< tt) (λ e. omega arith) [] []
 
 -- ---- two lists that differ once
 

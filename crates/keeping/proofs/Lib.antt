@@ -1,4 +1,5 @@
 pub mod Contents
+pub mod ImageKinds
 pub mod Images
 pub mod ImageTable
 pub mod ImagePremises

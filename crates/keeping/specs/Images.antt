@@ -9,14 +9,18 @@ use Rattle.bounds.specs.Bounds.{headSizes}
 use Rattle.laws.specs.Bits.{Words}
 use Rattle.laws.specs.Stores.{filled, fronted, pasted}
 use Rattle.refusal.specs.Answers.{Outcome, answered, refused}
-use Rattle.refusal.specs.declared.Refusal.the-variants.{ShortOutput, BadBlock}
+use Rattle.refusal.specs.declared.Made.the-variants.{Done}
+use Rattle.refusal.specs.declared.Refusal.the-variants.{ShortOutput, BadBlock, UnknownKind}
+use Rattle.mixer.specs.Kinds.{kindNumber, kindOf}
+use Rattle.mixer.specs.declared.Kind.the-variants.{Plain}
+use Rattle.mixer.specs.declared.KindOf.the-variants.{Unknown}
 use Rattle.head.specs.declared.Head.{Head}
 use Rattle.head.specs.Index.{noHead}
 use Rattle.head.specs.Layout.{usedWords, usedSamples}
 use Rattle.block.specs.Bytes.{wordBytes, bytesOf, wordAt, Bytes}
-use Rattle.block.specs.Block.{blockWords, blockBytes, checkOf}
+use Rattle.block.specs.Block.{blockWords, blockBytes, checkOf, contentAt}
 use Rattle.block.specs.Differ.{DifferOnce}
-use Rattle.image.specs.Image.{blockCount, writeCall, readAfter, readCall}
+use Rattle.image.specs.Image.{form, olderForm, headPlace, imageOf, blockCount, formIn, headIn, blockChecks, writeCall, readAfter, readCall}
 use Rattle.demands.specs.Rooms.{SameReads}
 
 -- ---- what was written reads back
@@ -49,11 +53,23 @@ writeRead image ws ss store =
     let read = readCall image ws ss .after in
     writeCall (read .head) (read .words) (read .samples) store
 
--- Written again, it is the same bytes.
-pub record SameAgain (image ws ss : List ℕ) : Type 0 where
-  pub as-long : (store : List ℕ) → length store ≡ length image → writeRead image ws ss store ≡ answered (blockCount image) image
-  -- in a longer store, the rest of which stays
-  pub longer : (store : List ℕ) → length image ≤ length store → writeRead image ws ss store ≡ answered (blockCount image) (fronted image store)
+-- the image of what was read of an image
+abbrev pub imageRead : (image ws ss : List ℕ) → List ℕ
+imageRead image ws ss =
+    let read = readCall image ws ss .after in
+    imageOf (read .head) (read .words) (read .samples)
+
+-- What was read of an image gives `again` when it is written.
+pub record Again (image ws ss again : List ℕ) : Type 0 where
+  -- in a store that is as long
+  pub as-long : (store : List ℕ) → length store ≡ length again → writeRead image ws ss store ≡ answered (blockCount again) again
+  -- and in a longer one, the rest of which stays
+  pub longer : (store : List ℕ) → length again ≤ length store → writeRead image ws ss store ≡ answered (blockCount again) (fronted again store)
+  -- It is of the form that is written, and the same bytes where the first was of that form.
+  pub in-form : formIn again ≡ form
+  pub same-bytes : formIn image ≡ form → again ≡ image
+  -- In any case it is read as the first is, into any stores.
+  pub same-read : (us vs : List ℕ) → readCall again us vs ≡ readCall image us vs
 
 -- an image with another word at place j
 abbrev pub withWord : List ℕ → ℕ → ℕ → List ℕ
@@ -64,6 +80,16 @@ abbrev pub ChangeFound : List ℕ → Type 0
 ChangeFound image =
     (j v : ℕ) → j < length image / wordBytes → v < 2 ^ 64 → (v ≡ wordAt image j → ⊥)
     → (us vs : List ℕ) → readCall (withWord image j v) us vs ≡ refused (readAfter noHead us vs) (BadBlock (j / blockWords))
+
+-- ---- kinds
+
+-- A number that no kind has is refused with 16, and all stores stay as they were.
+pub record NoKindKept (number : ℕ) : Type 0 where
+  -- by the writer, whatever else is wrong
+  pub write : (head : Head) (ws ss store : List ℕ) → head .kind ≡ number → writeCall head ws ss store ≡ refused store UnknownKind
+  -- by the reader where the blocks are good and the form has a kind, whatever else they hold
+  pub read : (image us vs : List ℕ) → blockChecks image ≡ Done → formIn image ≡ form → contentAt image headPlace ≡ number
+      → readCall image us vs ≡ refused (readAfter noHead us vs) UnknownKind
 
 -- ---- together
 
@@ -76,8 +102,12 @@ pub record Images : Type 0 where
       → (us vs : List ℕ) → usedWords head ≤ length us → usedSamples head ≤ length vs
       → let read = readCall (writtenPart (writeCall head ws ss store)) us vs .after in
       SameReads head ws ss (read .words) (read .samples)
-  -- An image that is accepted, in any stores, is the same bytes when it is written again, and a change of any one word of it is found.
-  pub again : (image ws ss : List ℕ) → Bytes image → readCall image ws ss .refusal ≡ 0 → SameAgain image ws ss
+  -- An image that is accepted, in any stores, is written again as the image of what was read: the same bytes, or where it is of the older form one that is read
+  -- as it is. And a change of any one word of it is found.
+  pub again : (image ws ss : List ℕ) → Bytes image → readCall image ws ss .refusal ≡ 0 → Again image ws ss (imageRead image ws ss)
   pub change-found : (image ws ss : List ℕ) → Bytes image → readCall image ws ss .refusal ≡ 0 → ChangeFound image
+  -- A number that no kind has is refused; in the older form every image is of the plain kind.
+  pub no-kind : (number : ℕ) → kindOf number ≡ Unknown → NoKindKept number
+  pub older-plain : (image : List ℕ) → formIn image ≡ olderForm → headIn image .kind ≡ kindNumber Plain
   -- Words that differ in exactly one place, such as words 0 to 62 of two blocks, have different checks.
   pub checks-differ : (us vs : List ℕ) → Words us → Words vs → DifferOnce us vs → checkOf us ≡ checkOf vs → ⊥

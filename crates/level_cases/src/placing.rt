@@ -29,7 +29,15 @@ pub fn place(count: usize, line: &[u64], store: &mut [u64]) -> bool {
     }
     let mut words = [0; WORDS];
     let mut collide = [0; WORDS];
-    let kept = level::place(number(line, 0), size, ids, rest, &mut words, &mut collide);
+    let kept = level::place(
+        mixer::Kind::Plain,
+        number(line, 0),
+        size,
+        ids,
+        rest,
+        &mut words,
+        &mut collide,
+    );
     let on = many(line, 3);
     let at = 4 + ids;
     count == at + 2 * need + on

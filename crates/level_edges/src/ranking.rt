@@ -28,6 +28,7 @@ fn rows(words: &[u64], samples: &[u64]) {
     let mut sizes = [0; HEAD_SIZES];
     sizes[0] = 640;
     let head = Head {
+        kind: 0,
         count: 576,
         levels: 1,
         sizes,

@@ -8,8 +8,10 @@ use lists::line::many;
 use lists::line::number;
 use lists::line::past;
 
-// How many numbers a head is.
+// How many numbers a head is, and the kind that it has here.
 pub const HEAD: usize = NUMBERS;
+
+pub const PLAIN: u64 = 0;
 
 // id, answer, how many ids, how many levels, how many words, how many samples, level sizes, words, samples
 pub fn lookup(count: usize, line: &[u64]) -> bool {
@@ -29,15 +31,16 @@ pub fn lookup(count: usize, line: &[u64]) -> bool {
     count == samples + many(line, 5) && answer == number(line, 1)
 }
 
-// The head of the line: id count, level count and sizes, and 0 past them.
+// The head of the line: the plain kind, id count, level count and sizes, and 0 past them.
 fn head(line: &[u64], levels: usize) -> [u64; HEAD]
     requires { ⌜ levels ≤ headSizes ⌝ }
 {
     let mut head = [0; HEAD];
-    head[0] = number(line, 2);
-    head[1] = number(line, 3);
+    head[0] = PLAIN;
+    head[1] = number(line, 2);
+    head[2] = number(line, 3);
     for i in 0..levels {
-        head[2 + i] = number(line, 6 + i);
+        head[3 + i] = number(line, 6 + i);
     }
     head
 }

@@ -1,3 +1,4 @@
 -- What a user has to believe.
+pub mod Kinds
 pub mod Mixer
 pub mod Position

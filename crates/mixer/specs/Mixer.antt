@@ -1,8 +1,10 @@
--- The hash of an id at a level: the plain mixer, which is the public SplitMix64 step, over the level's seed word. All in whole numbers, each word below 2 ^ 64.
+-- The hash of an id at a level, by its kind. The plain kind is the plain mixer, which is the public SplitMix64 step, over the level's seed word. All in whole numbers, each word below 2 ^ 64.
 use Prim.Native.Nat.{ℕ, _+_, _*_, _/_, _%_, _^_}
 use mathlib.Core.Bool.{cond}
 use lib.Dec.{ltb}
 use lib.Bits.{bitXor}
+use Rattle.mixer.specs.declared.Kind.{Kind}
+use Rattle.mixer.specs.declared.Kind.the-variants.{Plain}
 
 -- z xor (z >> k)
 abbrev pub stirred : ℕ → ℕ → ℕ
@@ -20,6 +22,6 @@ mixed id seed =
 abbrev pub seedWord : ℕ → ℕ
 seedWord i = cond (ltb i 32) (2 ^ (2 * i)) 0
 
--- the hash of an id at level i
-abbrev pub hashed : ℕ → ℕ → ℕ
-hashed i id = mixed id (seedWord i)
+-- the hash of an id at level i, by each kind
+abbrev pub hashed : Kind → ℕ → ℕ → ℕ
+hashed Plain i id = mixed id (seedWord i)

@@ -2,6 +2,7 @@
 use Prim.Native.Nat.{ℕ, _*_, _/_, _%_, _^_}
 use lib.Bits.{bitXor}
 use Rattle.mixer.specs.Mixer.{hashed}
+use Rattle.mixer.specs.declared.Kind.{Kind}
 
 -- the low 32 bits xor the high 32 bits
 abbrev pub folded : ℕ → ℕ
@@ -11,6 +12,10 @@ folded h = bitXor (h % 2 ^ 32) (h / 2 ^ 32)
 abbrev pub scaled : ℕ → ℕ → ℕ
 scaled f s = f * s / 2 ^ 32
 
--- the position rule: level i, of s bits, and an id
-unfoldable pub position : ℕ → ℕ → ℕ → ℕ
-position i s id = scaled (folded (hashed i id)) s
+-- the position rule of any hash: level i, of s bits, and an id
+abbrev pub positionBy : (ℕ → ℕ → ℕ) → ℕ → ℕ → ℕ → ℕ
+positionBy hash i s id = scaled (folded (hash i id)) s
+
+-- the position rule of a kind
+unfoldable pub position : Kind → ℕ → ℕ → ℕ → ℕ
+position kind i s id = positionBy (hashed kind) i s id

@@ -1,10 +1,33 @@
-// From an id to its position among the bits of a level : the plain mixer, which is the public SplitMix64 step, the seed word of a level, and
-// the position of the folded hash. The names are boomphf's where it has one.
+// From an id to its position among the bits of a level : the kinds of hash, the plain mixer, which is the public SplitMix64 step, the seed word
+// of a level, and the position of the folded hash. The names are boomphf's where it has one.
 ghost use mathlib.Core.Path.{_≡_};
 ghost use Prim.Native.Nat.{_*_, _%_, _^_, _≤_};
 ghost use Rattle.bounds.specs.Bounds.{maxBits};
+ghost use Rattle.mixer.specs.Kinds.{kindOf};
 ghost use Rattle.mixer.specs.Mixer.{mixed, seedWord, hashed};
 ghost use Rattle.mixer.specs.Position.{folded, scaled, position};
+
+// The known kinds of hash.
+pub enum Kind {
+    // 0: the plain mixer.
+    Plain,
+}
+
+// What the number of a kind stands for.
+pub enum KindOf {
+    Known(Kind),
+    Unknown,
+}
+
+// The kind that a number stands for.
+pub fn kind_of(number: u64) -> KindOf
+    ensures { λ r. ⌜ r ≡ kindOf number ⌝ }
+{
+    if number == 0 {
+        return KindOf::Known(Kind::Plain);
+    }
+    KindOf::Unknown
+}
 
 // a * b modulo 2^64. The halves' products fit, and that of the two high halves falls away.
 pub fn wrapping_mul(a: u64, b: u64) -> u64
@@ -37,10 +60,12 @@ pub fn seed_word(level: u64) -> u64
 }
 
 // The hash of an id at a level.
-pub fn hash_with_seed(level: u64, id: u64) -> u64
-    ensures { λ r. ⌜ r ≡ hashed level id ⌝ }
+pub fn hash_with_seed(kind: Kind, level: u64, id: u64) -> u64
+    ensures { λ r. ⌜ r ≡ hashed kind level id ⌝ }
 {
-    mix(id, seed_word(level))
+    match kind {
+        Kind::Plain => mix(id, seed_word(level)),
+    }
 }
 
 // The low 32 bits xor the high 32 bits.
@@ -58,9 +83,9 @@ pub fn fastmod(hash: u32, n: u32) -> u64
 }
 
 // The position of an id among the n bits of a level.
-pub fn hashmod(level: u64, id: u64, n: u64) -> u64
+pub fn hashmod(kind: Kind, level: u64, id: u64, n: u64) -> u64
     requires { ⌜ n ≤ maxBits ⌝ }
-    ensures { λ r. ⌜ r ≡ position level n id ⌝ }
+    ensures { λ r. ⌜ r ≡ position kind level n id ⌝ }
 {
-    fastmod(fold(hash_with_seed(level, id)), n as u32)
+    fastmod(fold(hash_with_seed(kind, level, id)), n as u32)
 }

@@ -21,12 +21,13 @@ fn levels_are(levels: u64) {
 
 fn levels_in(levels: u64, image: &mut [u8]) {
     let head = Head {
+        kind: 0,
         count: 3,
         levels: 100,
         sizes: [255; HEAD_SIZES],
     };
     image::write(head, &[5; 400], &[6; 100], image);
-    put(image, 3, levels);
+    put(image, 4, levels);
     mend(image);
     read(image, 400, 100);
 }

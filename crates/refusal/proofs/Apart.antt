@@ -9,7 +9,7 @@ use lib.Dec.{eqb, lit<, lit≤}
 use Rattle.refusal.specs.Table.{numberOf, valueOf, lastNumber}
 use Rattle.refusal.specs.declared.Refusal.{Refusal}
 use Rattle.refusal.specs.declared.Refusal.the-variants.{GammaTooSmall, GammaTooLarge, TooManyIds, ShortWorkStore, NoRoomForLevel, IdsRemain}
-use Rattle.refusal.specs.declared.Refusal.the-variants.{UnfitHead, UnfitRow, BitOutside, UnfitSet, ShortOutput, WrongIds, UnfitLength, BadBlock, UnfitContent}
+use Rattle.refusal.specs.declared.Refusal.the-variants.{UnfitHead, UnfitRow, BitOutside, UnfitSet, ShortOutput, WrongIds, UnfitLength, BadBlock, UnfitContent, UnknownKind}
 
 -- the first of some cases that has a number
 abbrev withNumber : ℕ → List Refusal → Refusal
@@ -21,7 +21,7 @@ abbrev pub caseOf : ℕ → ℕ → Refusal
 caseOf n v =
     withNumber n
     (GammaTooSmall ∷ GammaTooLarge ∷ TooManyIds ∷ ShortWorkStore ∷ NoRoomForLevel v ∷ IdsRemain v ∷ UnfitHead ∷ UnfitRow ∷ BitOutside ∷ UnfitSet
-    ∷ ShortOutput ∷ WrongIds ∷ UnfitLength ∷ BadBlock v ∷ UnfitContent ∷ [])
+    ∷ ShortOutput ∷ WrongIds ∷ UnfitLength ∷ BadBlock v ∷ UnfitContent ∷ UnknownKind ∷ [])
 
 -- what is known of the number of a refusal: it is not 0, which stands for none, nor past the table, and the case can be read back
 pub record Numbered (r : Refusal) : Type 0 where
@@ -45,6 +45,7 @@ numbered WrongIds = record { positive = lit< tt; within = lit≤ tt; back = refl
 numbered UnfitLength = record { positive = lit< tt; within = lit≤ tt; back = refl }
 numbered (BadBlock block) = record { positive = lit< tt; within = lit≤ tt; back = refl }
 numbered UnfitContent = record { positive = lit< tt; within = lit≤ tt; back = refl }
+numbered UnknownKind = record { positive = lit< tt; within = lit≤ tt; back = refl }
 
 pub apart : (r s : Refusal) → numberOf r ≡ numberOf s → valueOf r ≡ valueOf s → r ≡ s
 apart r s e f = sym (numbered r .back) ∙ ap₂ caseOf e f ∙ numbered s .back

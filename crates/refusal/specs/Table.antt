@@ -2,7 +2,7 @@
 use Prim.Native.Nat.{ℕ}
 use Rattle.refusal.specs.declared.Refusal.{Refusal}
 use Rattle.refusal.specs.declared.Refusal.the-variants.{GammaTooSmall, GammaTooLarge, TooManyIds, ShortWorkStore, NoRoomForLevel, IdsRemain}
-use Rattle.refusal.specs.declared.Refusal.the-variants.{UnfitHead, UnfitRow, BitOutside, UnfitSet, ShortOutput, WrongIds, UnfitLength, BadBlock, UnfitContent}
+use Rattle.refusal.specs.declared.Refusal.the-variants.{UnfitHead, UnfitRow, BitOutside, UnfitSet, ShortOutput, WrongIds, UnfitLength, BadBlock, UnfitContent, UnknownKind}
 
 abbrev pub numberOf : Refusal → ℕ
 numberOf GammaTooSmall = 1
@@ -20,10 +20,11 @@ numberOf WrongIds = 12
 numberOf UnfitLength = 13
 numberOf (BadBlock block) = 14
 numberOf UnfitContent = 15
+numberOf UnknownKind = 16
 
 -- the last number of the table
 abbrev pub lastNumber : ℕ
-lastNumber = 15
+lastNumber = 16
 
 -- 5 carries the level, 6 how many ids remain, 14 the block; the others nothing, which is 0
 abbrev pub valueOf : Refusal → ℕ
@@ -42,3 +43,4 @@ valueOf WrongIds = 0
 valueOf UnfitLength = 0
 valueOf (BadBlock block) = block
 valueOf UnfitContent = 0
+valueOf UnknownKind = 0

@@ -33,6 +33,8 @@ pub enum Refusal {
     BadBlock(u64),
     // 15: no content of an image: of blocks that are read, or of a head that is to be written.
     UnfitContent,
+    // 16: no known kind of hash.
+    UnknownKind,
 }
 
 // What a call answers: done; yes or no; a count. Each can be a refusal with its reason.
@@ -72,6 +74,7 @@ pub fn number(r: Refusal) -> u64
         Refusal::UnfitLength => 13,
         Refusal::BadBlock(_) => 14,
         Refusal::UnfitContent => 15,
+        Refusal::UnknownKind => 16,
     }
 }
 
@@ -95,5 +98,6 @@ pub fn value(r: Refusal) -> u64
         Refusal::UnfitLength => 0,
         Refusal::BadBlock(block) => block,
         Refusal::UnfitContent => 0,
+        Refusal::UnknownKind => 0,
     }
 }

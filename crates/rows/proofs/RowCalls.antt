@@ -11,10 +11,13 @@ use lib.ListN.{length, drop, getD, replicate, length-replicate, getD-replicate, 
 use lib.Seq.{drop-at}
 use Rattle.laws.specs.Bits.{wordsFor}
 use Rattle.laws.proofs.Words.{has-clear}
-use Rattle.refusal.specs.declared.Refusal.the-variants.{UnfitHead, ShortOutput, WrongIds}
+use Rattle.refusal.specs.declared.Refusal.the-variants.{UnfitHead, ShortOutput, WrongIds, UnknownKind}
 use Rattle.refusal.specs.declared.Made.the-variants as M
 use Rattle.refusal.specs.Answers.{made}
 use Rattle.finding.specs.Find.{rowIn}
+use Rattle.mixer.specs.Kinds.{kindOf}
+use Rattle.mixer.specs.declared.Kind.{Kind}
+use Rattle.mixer.specs.declared.KindOf.the-variants.{Known, Unknown}
 use Rattle.head.specs.Layout.{fit}
 use Rattle.laws.specs.Stores.{zeros}
 use Rattle.rows.specs.Rows.{apart, rowStores, clearMarks, rowsBy, rowsCall}
@@ -69,24 +72,29 @@ module _ (row : ℕ → Option ℕ) (count : ℕ) (ids rows marks after : List �
 -- ---- the checks before
 
 module _ (head : Head) (ws ss ids rows marks : List ℕ) where
-  pub call-unfit : fit (head .count) (head .levels) (head .sizes) (length ws) (length ss) ≡ false
-      → made (M.Refused UnfitHead) (rowStores rows marks) ≡ rowsCall head ws ss ids rows marks
+  pub call-unknown : kindOf (head .kind) ≡ Unknown → made (M.Refused UnknownKind) (rowStores rows marks) ≡ rowsCall head ws ss ids rows marks
   unfolding rowsCall
-  call-unfit e = rw e
+  call-unknown u = rw u
 
-  module _ (e : fit (head .count) (head .levels) (head .sizes) (length ws) (length ss) ≡ true) where
-    pub rows-short : length rows < head .count → made (M.Refused ShortOutput) (rowStores rows marks) ≡ rowsCall head ws ss ids rows marks
+  module _ (kind : Kind) (k : kindOf (head .kind) ≡ Known kind) where
+    pub call-unfit : fit (head .count) (head .levels) (head .sizes) (length ws) (length ss) ≡ false
+        → made (M.Refused UnfitHead) (rowStores rows marks) ≡ rowsCall head ws ss ids rows marks
     unfolding rowsCall
-    rows-short h = rw (e, lt-leb (head .count) (length rows) h)
+    call-unfit e = rw (k, e)
 
-    pub marks-short : head .count ≤ length rows → length marks < wordsFor (head .count)
-        → made (M.Refused ShortOutput) (rowStores rows marks) ≡ rowsCall head ws ss ids rows marks
-    unfolding rowsCall
-    marks-short h l = rw (e, le-leb (head .count) (length rows) h, lt-leb (wordsFor (head .count)) (length marks) l)
+    module _ (e : fit (head .count) (head .levels) (head .sizes) (length ws) (length ss) ≡ true) where
+      pub rows-short : length rows < head .count → made (M.Refused ShortOutput) (rowStores rows marks) ≡ rowsCall head ws ss ids rows marks
+      unfolding rowsCall
+      rows-short h = rw (k, e, lt-leb (head .count) (length rows) h)
 
-    pub stores-fit : head .count ≤ length rows → wordsFor (head .count) ≤ length marks
-        → rowsBy (rowBy (head .count) (head .levels) (head .sizes) ws ss) (head .count) ids rows marks ≡ rowsCall head ws ss ids rows marks
-    unfolding rowsCall rowBy
-    stores-fit h l =
-        rw (e, le-leb (head .count) (length rows) h, le-leb (wordsFor (head .count)) (length marks) l)
-        (ap (λ (row : ℕ → Option ℕ). rowsBy row (head .count) ids rows marks) (fun-ext (λ x. ap rowIn (lookup-fit head ws ss x e))))
+      pub marks-short : head .count ≤ length rows → length marks < wordsFor (head .count)
+          → made (M.Refused ShortOutput) (rowStores rows marks) ≡ rowsCall head ws ss ids rows marks
+      unfolding rowsCall
+      marks-short h l = rw (k, e, le-leb (head .count) (length rows) h, lt-leb (wordsFor (head .count)) (length marks) l)
+
+      pub stores-fit : head .count ≤ length rows → wordsFor (head .count) ≤ length marks
+          → rowsBy (rowBy kind (head .count) (head .levels) (head .sizes) ws ss) (head .count) ids rows marks ≡ rowsCall head ws ss ids rows marks
+      unfolding rowsCall rowBy
+      stores-fit h l =
+          rw (k, e, le-leb (head .count) (length rows) h, le-leb (wordsFor (head .count)) (length marks) l)
+          (ap (λ (row : ℕ → Option ℕ). rowsBy row (head .count) ids rows marks) (fun-ext (λ x. ap rowIn (lookup-fit head ws ss x kind k e))))

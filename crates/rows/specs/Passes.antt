@@ -6,14 +6,15 @@ use mathlib.Core.List.{List, [], _∷_}
 use mathlib.Core.Option.{Option, none, some}
 use lib.ListN.{set, drop}
 use Rattle.laws.specs.Bits.{has, wordsFor, withBit}
+use Rattle.mixer.specs.declared.Kind.{Kind}
 use Rattle.head.specs.Index.{positions}
 use Rattle.head.specs.Layout.{sizeAt}
 use Rattle.finding.specs.Find.{rowIn, findIn}
 use Rattle.rows.specs.Rows.{apart}
 
--- the row of a number, by the count, the number of levels, their sizes, the words and the samples
-unfoldable pub rowBy : ℕ → ℕ → List ℕ → List ℕ → List ℕ → ℕ → Option ℕ
-rowBy count levels sizes ws ss x = rowIn (findIn positions count (sizeAt sizes) ws ss x levels)
+-- the row of a number, by the kind, the count, the number of levels, their sizes, the words and the samples
+unfoldable pub rowBy : Kind → ℕ → ℕ → List ℕ → List ℕ → List ℕ → ℕ → Option ℕ
+rowBy kind count levels sizes ws ss x = rowIn (findIn (positions kind) count (sizeAt sizes) ws ss x levels)
 
 -- ---- marks
 

@@ -10,6 +10,8 @@ use Rattle.laws.specs.Bits.{wordsFor}
 use Rattle.laws.specs.Stores.{zeros}
 use Rattle.refusal.specs.Answers.{Outcome, answered, refused, check}
 use Rattle.refusal.specs.declared.Refusal.the-variants.{UnfitHead, ShortOutput, WrongIds}
+use Rattle.mixer.specs.Kinds.{kindOf}
+use Rattle.head.specs.KindCheck.{checkKind}
 use Rattle.head.specs.Layout.{fit}
 use Rattle.head.specs.declared.Head.{Head}
 use Rattle.finding.specs.Find.{rowIn}
@@ -64,11 +66,12 @@ rowsBy row count ids rows marks =
     check (eqb (length ids) count && apart row ids count) WrongIds (refused (rowStores rows (clearMarks count marks)))
     (answered 0 (rowStores (listed row ids count ++ drop count rows) (clearMarks count marks)))
 
--- The row list of the ids by lookup: first the checks of the head and of the stores.
+-- The row list of the ids by lookup: first the checks of the kind, of the head and of the stores.
 unfoldable pub rowsCall : Head → List ℕ → List ℕ → List ℕ → List ℕ → List ℕ → Outcome RowStores
 rowsCall head ws ss ids rows marks =
     let count = head .count in
     let as-they-were = refused (rowStores rows marks) in
+    checkKind (kindOf (head .kind)) as-they-were λ kind.
     check (fit count (head .levels) (head .sizes) (length ws) (length ss)) UnfitHead as-they-were
     (check (leb count (length rows) && leb (wordsFor count) (length marks)) ShortOutput as-they-were
     (rowsBy (λ x. rowIn (lookupCall head ws ss x)) count ids rows marks))

@@ -12,6 +12,9 @@ use finding::Found;
 use finding::find;
 use head::Head;
 use head::is_fit;
+use mixer::Kind;
+use mixer::KindOf;
+use mixer::kind_of;
 use refusal::Made;
 use refusal::Refusal;
 use words::add_bit;
@@ -30,6 +33,9 @@ pub fn rows(
     ensures { λ r. ⌜ made r (rowStores (now (rows .exit)) (now (marks .exit)))
         ≡ rowsCall head (now (words .entry)) (now (samples .entry)) (now (ids .entry)) (now (rows .entry)) (now (marks .entry)) ⌝ }
 {
+    let KindOf::Known(kind) = kind_of(head.kind) else {
+        return Made::Refused(Refusal::UnknownKind);
+    };
     let sizes = head.sizes;
     if !is_fit(head.count, head.levels, &sizes, words.len(), samples.len()) {
         return Made::Refused(Refusal::UnfitHead);
@@ -41,6 +47,7 @@ pub fn rows(
         return Made::Refused(Refusal::ShortOutput);
     }
     list_rows(
+        kind,
         head.count,
         head.levels,
         &sizes,
@@ -54,6 +61,7 @@ pub fn rows(
 
 // The same, in stores that are long enough: no row is written before it is known that the ids fill the rows one for one.
 fn list_rows(
+    kind: Kind,
     count: u64,
     levels: u64,
     sizes: &[u64; HEAD_SIZES],
@@ -66,7 +74,7 @@ fn list_rows(
     requires { ⌜ Fit count levels (now sizes) (length (now words)) (length (now samples)) ⌝ }
     requires { ⌜ count ≤ length (now rows) ⌝ ∗ ⌜ wordsFor count ≤ length (now marks) ⌝ }
     ensures { λ r. ⌜ made r (rowStores (now (rows .exit)) (now (marks .exit)))
-        ≡ rowsBy (rowBy count levels (now (sizes .entry)) (now (words .entry)) (now (samples .entry)))
+        ≡ rowsBy (rowBy kind count levels (now (sizes .entry)) (now (words .entry)) (now (samples .entry)))
         count (now (ids .entry)) (now (rows .entry)) (now (marks .entry)) ⌝ }
 {
     let need = u64s(count) as usize;
@@ -74,17 +82,18 @@ fn list_rows(
     if ids.len() as u64 != count {
         return Made::Refused(Refusal::WrongIds);
     }
-    let apart = are_apart(count, levels, sizes, words, samples, ids, marks);
+    let apart = are_apart(kind, count, levels, sizes, words, samples, ids, marks);
     fill(marks, need, 0);
     if !apart {
         return Made::Refused(Refusal::WrongIds);
     }
-    write_rows(count, levels, sizes, words, samples, ids, rows);
+    write_rows(kind, count, levels, sizes, words, samples, ids, rows);
     Made::Done
 }
 
 // Whether every id has a row and no two share one, by marks that are clear at first.
 fn are_apart(
+    kind: Kind,
     count: u64,
     levels: u64,
     sizes: &[u64; HEAD_SIZES],
@@ -95,11 +104,11 @@ fn are_apart(
 ) -> bool
     requires { ⌜ Fit count levels (now sizes) (length (now words)) (length (now samples)) ⌝ }
     requires { ⌜ wordsFor count ≤ length (now marks) ⌝ ∗ ⌜ Unmarked count (now marks) ⌝ }
-    ensures { λ r. ⌜ Checked (rowBy count levels (now (sizes .entry)) (now (words .entry)) (now (samples .entry)))
+    ensures { λ r. ⌜ Checked (rowBy kind count levels (now (sizes .entry)) (now (words .entry)) (now (samples .entry)))
         (now (ids .entry)) count (now (marks .entry)) r (now (marks .exit)) ⌝ }
 {
     for i in 0..ids.len() {
-        if !mark_row(count, levels, sizes, words, samples, ids[i], marks) {
+        if !mark_row(kind, count, levels, sizes, words, samples, ids[i], marks) {
             return false;
         }
     }
@@ -108,6 +117,7 @@ fn are_apart(
 
 // Marks the id's row; whether there is one and it was not marked before.
 fn mark_row(
+    kind: Kind,
     count: u64,
     levels: u64,
     sizes: &[u64; HEAD_SIZES],
@@ -118,10 +128,10 @@ fn mark_row(
 ) -> bool
     requires { ⌜ Fit count levels (now sizes) (length (now words)) (length (now samples)) ⌝ }
     requires { ⌜ wordsFor count ≤ length (now marks) ⌝ }
-    ensures { λ r. ⌜ Marked (rowBy count levels (now (sizes .entry)) (now (words .entry)) (now (samples .entry)) id)
+    ensures { λ r. ⌜ Marked (rowBy kind count levels (now (sizes .entry)) (now (words .entry)) (now (samples .entry)) id)
         (now (marks .entry)) r (now (marks .exit)) ⌝ }
 {
-    let Found::Row(place) = find(count, levels, sizes, words, samples, id) else {
+    let Found::Row(place) = find(kind, count, levels, sizes, words, samples, id) else {
         return false;
     };
     !add_bit(marks, place.row)
@@ -129,6 +139,7 @@ fn mark_row(
 
 // Writes each id at its row.
 fn write_rows(
+    kind: Kind,
     count: u64,
     levels: u64,
     sizes: &[u64; HEAD_SIZES],
@@ -140,15 +151,16 @@ fn write_rows(
     requires { ⌜ Fit count levels (now sizes) (length (now words)) (length (now samples)) ⌝ }
     requires { ⌜ count ≤ length (now rows) ⌝ }
     ensures { λ _. ⌜ now (rows .exit)
-        ≡ withIds (rowBy count levels (now (sizes .entry)) (now (words .entry)) (now (samples .entry))) (now (ids .entry)) (now (rows .entry)) ⌝ }
+        ≡ withIds (rowBy kind count levels (now (sizes .entry)) (now (words .entry)) (now (samples .entry))) (now (ids .entry)) (now (rows .entry)) ⌝ }
 {
     for i in 0..ids.len() {
-        write_row(count, levels, sizes, words, samples, ids[i], rows);
+        write_row(kind, count, levels, sizes, words, samples, ids[i], rows);
     }
 }
 
 // Writes the id at its row, if it has one.
 fn write_row(
+    kind: Kind,
     count: u64,
     levels: u64,
     sizes: &[u64; HEAD_SIZES],
@@ -160,9 +172,9 @@ fn write_row(
     requires { ⌜ Fit count levels (now sizes) (length (now words)) (length (now samples)) ⌝ }
     requires { ⌜ count ≤ length (now rows) ⌝ }
     ensures { λ _. ⌜ now (rows .exit)
-        ≡ withId (rowBy count levels (now (sizes .entry)) (now (words .entry)) (now (samples .entry)) id) id (now (rows .entry)) ⌝ }
+        ≡ withId (rowBy kind count levels (now (sizes .entry)) (now (words .entry)) (now (samples .entry)) id) id (now (rows .entry)) ⌝ }
 {
-    let Found::Row(place) = find(count, levels, sizes, words, samples, id) else {
+    let Found::Row(place) = find(kind, count, levels, sizes, words, samples, id) else {
         return;
     };
     let row = place.row as usize;

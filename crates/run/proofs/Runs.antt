@@ -25,6 +25,7 @@ use Rattle.sizes.specs.Sizes.{sizeFor}
 use Rattle.sizes.proofs.Sizes.{size-mono}
 use Rattle.head.specs.Layout.{samplesOfSize}
 use Rattle.run.specs.Stores.{Stores, stores}
+use Rattle.mixer.specs.declared.Kind.{Kind}
 use Rattle.head.specs.Index.{ruleOf, roomOf, wordsAt, samplesAt, indexWords, indexSamples, indexSizes}
 use Rattle.run.specs.Turn.{nextSize, TurnRoom, hasRoom, comers, spot, ownWords, turned, nextProgress, nextStores, levelTurn}
 use Rattle.run.specs.Run.{Begun, Ran}
@@ -34,9 +35,9 @@ use Rattle.run.specs.declared.Turn.the-variants as T
 use Rattle.run.proofs.Turns.{turn-placed, turn-full}
 use Rattle.head.proofs.Indexes.{rule-sound, length-filled, filled-past, filled-pasted, filled-set, length-words-at, length-samples-at, length-words, length-samples-to, length-sizes, words-next, samples-next, sizes-next}
 
-module _ (gamma : Float) (ids : List ℕ) (s₀ : Stores) where
+module _ (kind : Kind) (gamma : Float) (ids : List ℕ) (s₀ : Stores) where
   abbrev rule : Rule
-  rule = ruleOf gamma
+  rule = ruleOf kind gamma
 
   abbrev room : Room
   room = roomOf (length (s₀ .words)) (length (s₀ .samples))
@@ -80,7 +81,7 @@ module _ (gamma : Float) (ids : List ℕ) (s₀ : Stores) where
     unfolding remaining
     ready allowed few wide h =
         let fewer : length (remaining rule ids i) ≤ length ids = remaining-fewer rule ids 0 i (omega arith) in
-        let sum : base (span rule ids) (bit rule ids) i + length (remaining rule ids i) ≡ length ids = all-accounted rule ids (rule-sound gamma) i in
+        let sum : base (span rule ids) (bit rule ids) i + length (remaining rule ids i) ≡ length ids = all-accounted rule ids (rule-sound kind gamma) i in
         record {
           allowed = allowed;
           few-ids = omega (arith, t .remaining-is);
@@ -112,7 +113,7 @@ module _ (gamma : Float) (ids : List ℕ) (s₀ : Stores) where
         let l : length (wordsAt rule ids i) ≡ n = length-words-at rule ids i in
         next-base (span rule ids) (bit rule ids) i (wordsAt rule ids i) (omega arith)
         (λ q h. sym (packed-has n (bit rule ids i) q (omega arith)))
-        (λ q h k. packed-has n (bit rule ids i) q (omega arith) ∙ unset-past (rule .pos i (span rule ids i)) (remaining rule ids i) (span rule ids i) (spot-lt rule ids (rule-sound gamma) i) q h)
+        (λ q h k. packed-has n (bit rule ids i) q (omega arith) ∙ unset-past (rule .pos i (span rule ids i)) (remaining rule ids i) (span rule ids i) (spot-lt rule ids (rule-sound kind gamma) i) q h)
 
     -- ---- after it
 
@@ -222,10 +223,10 @@ module _ (gamma : Float) (ids : List ℕ) (s₀ : Stores) where
 
 -- ---- the beginning
 
-pub begins : (gamma : Float) (count : ℕ) (sizes : List ℕ) (s : Stores) → Begun gamma count sizes s
-    → State gamma (take count (s .rest)) s 0 (record { level = 0; remaining = count; words = 0; samples = 0; set = 0 }) sizes s
+pub begins : (kind : Kind) (gamma : Float) (count : ℕ) (sizes : List ℕ) (s : Stores) → Begun gamma count sizes s
+    → State kind gamma (take count (s .rest)) s 0 (record { level = 0; remaining = count; words = 0; samples = 0; set = 0 }) sizes s
 unfolding remaining indexWords indexSamples indexSizes
-begins gamma count sizes s b = record {
+begins kind gamma count sizes s b = record {
   level-is = refl;
   remaining-is = sym (length-take-le count (s .rest) (b .in-rest));
   words-at = refl;
@@ -239,9 +240,9 @@ begins gamma count sizes s b = record {
   rest-length = refl;
 }
 
-pub ready-next : (gamma : Float) (count : ℕ) (sizes₀ : List ℕ) (s₀ : Stores) → Begun gamma count sizes₀ s₀ → (i : ℕ) (at : Progress) (sizes : List ℕ) (s : Stores)
-    → State gamma (take count (s₀ .rest)) s₀ i at sizes s
-    → Reaches (ruleOf gamma) (roomOf (length (s₀ .words)) (length (s₀ .samples))) (take count (s₀ .rest)) i → i < levelLimit → TurnRoom gamma at s
-ready-next gamma count sizes₀ s₀ b i at sizes s t r h =
+pub ready-next : (kind : Kind) (gamma : Float) (count : ℕ) (sizes₀ : List ℕ) (s₀ : Stores) → Begun gamma count sizes₀ s₀ → (i : ℕ) (at : Progress) (sizes : List ℕ) (s : Stores)
+    → State kind gamma (take count (s₀ .rest)) s₀ i at sizes s
+    → Reaches (ruleOf kind gamma) (roomOf (length (s₀ .words)) (length (s₀ .samples))) (take count (s₀ .rest)) i → i < levelLimit → TurnRoom gamma at s
+ready-next kind gamma count sizes₀ s₀ b i at sizes s t r h =
     let l : length (take count (s₀ .rest)) ≡ count = length-take-le count (s₀ .rest) (b .in-rest) in
-    ready gamma (take count (s₀ .rest)) s₀ i at sizes s t r (b .allowed) (rw l (b .few-ids)) (rw l (b .in-collide)) h
+    ready kind gamma (take count (s₀ .rest)) s₀ i at sizes s t r (b .allowed) (rw l (b .few-ids)) (rw l (b .in-collide)) h

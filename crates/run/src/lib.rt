@@ -8,6 +8,7 @@ ghost use Rattle.run.specs.Run.{Begun, Ran};
 ghost use Rattle.run.specs.Turn.{Placeable, PlacedAt, Sampleable, SampledAt, TurnRoom, turned, levelTurn};
 use bounds::HEAD_SIZES;
 use bounds::LEVEL_LIMIT;
+use mixer::Kind;
 use ranks::part;
 use ranks::sample_level;
 use words::fill;
@@ -37,6 +38,7 @@ pub enum Run {
 
 // Builds one level after another for the first `count` ids of the rest store, and notes the levels' sizes.
 pub fn build_levels(
+    kind: Kind,
     gamma: f64,
     count: usize,
     sizes: &mut [u64; HEAD_SIZES],
@@ -46,7 +48,7 @@ pub fn build_levels(
     rest: &mut [u64],
 ) -> Run
     requires { ⌜ Begun gamma count (now sizes) (stores (now words) (now samples) (now collide) (now rest)) ⌝ }
-    ensures { λ r. ⌜ Ran (ruleOf gamma) (take count (now (rest .entry)))
+    ensures { λ r. ⌜ Ran (ruleOf kind gamma) (take count (now (rest .entry)))
         (stores (now (words .entry)) (now (samples .entry)) (now (collide .entry)) (now (rest .entry)))
         r (now (sizes .exit)) (stores (now (words .exit)) (now (samples .exit)) (now (collide .exit)) (now (rest .exit))) ⌝ }
 {
@@ -58,7 +60,7 @@ pub fn build_levels(
         set: 0,
     };
     for i in 0..LEVEL_LIMIT {
-        let turn = build_level(gamma, at, words, samples, collide, rest);
+        let turn = build_level(kind, gamma, at, words, samples, collide, rest);
         let Turn::Placed(size, next) = turn else {
             return Run::NoRoom(i as u64);
         };
@@ -73,6 +75,7 @@ pub fn build_levels(
 
 // Builds the next level.
 fn build_level(
+    kind: Kind,
     gamma: f64,
     at: Progress,
     words: &mut [u64],
@@ -82,7 +85,7 @@ fn build_level(
 ) -> Turn
     requires { ⌜ TurnRoom gamma at (stores (now words) (now samples) (now collide) (now rest)) ⌝ }
     ensures { λ r. ⌜ turned r (stores (now (words .exit)) (now (samples .exit)) (now (collide .exit)) (now (rest .exit)))
-        ≡ levelTurn (ruleOf gamma) at (stores (now (words .entry)) (now (samples .entry)) (now (collide .entry)) (now (rest .entry))) ⌝ }
+        ≡ levelTurn (ruleOf kind gamma) at (stores (now (words .entry)) (now (samples .entry)) (now (collide .entry)) (now (rest .entry))) ⌝ }
 {
     let size = sizes::size(gamma, at.remaining as u64);
     let taken = u64s(size) as usize;
@@ -93,7 +96,7 @@ fn build_level(
     if samples.len() - at.samples < ranked {
         return Turn::NoRoom;
     }
-    let remaining = place_at(at.level, size, at.remaining, rest, words, at.words, collide);
+    let remaining = place_at(kind, at, size, rest, words, collide);
     let set = sample_at(words, at.words, taken, at.set, samples, at.samples);
     let next = Progress {
         level: at.level + 1,
@@ -105,21 +108,29 @@ fn build_level(
     Turn::Placed(size, next)
 }
 
-// Places the first `count` ids of the rest store in a level that starts at a place of the words, and clears collide again; how many ids go on.
+// Places the ids that come to the next level, which stand at the front of the rest store, in its words, and clears collide again; how many ids go on.
 fn place_at(
-    level: u64,
+    kind: Kind,
+    at: Progress,
     size: u64,
-    count: usize,
     rest: &mut [u64],
     words: &mut [u64],
-    at: usize,
     collide: &mut [u64],
 ) -> usize
-    requires { ⌜ Placeable size count at (now rest) (now words) (now collide) ⌝ }
-    ensures { λ r. ⌜ PlacedAt (position level size) size (take count (now (rest .entry))) at (now (rest .entry)) (now (words .entry)) (now (collide .entry))
-        r (now (rest .exit)) (now (words .exit)) (now (collide .exit)) ⌝ }
+    requires { ⌜ Placeable size (at .remaining) (at .words) (now rest) (now words) (now collide) ⌝ }
+    ensures { λ r. ⌜ PlacedAt (position kind (at .level) size) size (take (at .remaining) (now (rest .entry))) (at .words)
+        (now (rest .entry)) (now (words .entry)) (now (collide .entry)) r (now (rest .exit)) (now (words .exit)) (now (collide .exit)) ⌝ }
 {
-    let kept = level::place(level, size, count, rest, &mut words[at..], collide);
+    let start = at.words;
+    let kept = level::place(
+        kind,
+        at.level,
+        size,
+        at.remaining,
+        rest,
+        &mut words[start..],
+        collide,
+    );
     fill(collide, u64s(size) as usize, 0);
     kept
 }

@@ -4,7 +4,7 @@ use crate::calls::{Act, Calls, Sets};
 use crate::lent::{same_number, same_store, Compared, Difference, Lent};
 use crate::reading::bounds::LAST_REFUSAL;
 use crate::reading::image::ReadStores;
-use crate::reading::index::{Given, Run, Stores};
+use crate::reading::index::{Asked, Given, Run, Stores};
 use crate::reading::{image, index, set, NONE};
 use oracle::draw::Draw;
 use std::collections::BTreeMap;
@@ -14,7 +14,7 @@ pub type Tally = BTreeMap<String, u64>;
 pub struct Bench<'a> {
     pub calls: &'a dyn Calls,
     pub draw: Draw,
-    /// How many calls of each kind, with each sort of answer, were found equal.
+    /// How many calls of each sort, with each sort of answer, were found equal.
     pub equal: Tally,
     /// How many images were lent.
     images: usize,
@@ -30,13 +30,13 @@ impl Bench<'_> {
         }
     }
 
-    fn counted(&mut self, kind: &str, result: u64) {
+    fn counted(&mut self, call: &str, result: u64) {
         let answer = match NONE - result {
             0 => "none".to_string(),
             number @ 1..=LAST_REFUSAL => format!("refusal {number}"),
             _ => "answered".to_string(),
         };
-        *self.equal.entry(format!("{kind}, {answer}")).or_default() += 1;
+        *self.equal.entry(format!("{call}, {answer}")).or_default() += 1;
     }
 
     /// Places with anything in them.
@@ -62,20 +62,21 @@ impl Bench<'_> {
     }
 
     /// A build in these stores: what it answers and leaves in every one is the reading's.
-    pub fn build(&mut self, gamma: f64, ids: &[u64], run: Option<&Run>, before: &Stores) -> Compared {
-        let (wanted, after) = index::build(gamma, ids, run, before);
+    pub fn build(&mut self, asked: Asked, before: &Stores) -> Result<u64, Difference> {
+        let Asked { kind, gamma, ids, .. } = asked;
+        let (wanted, after) = index::build(asked, before);
         let mut lent = before.named().map(|(_, store)| Lent::new(store));
         let mut given = Lent::new(ids);
         let [words, samples, collide, rest, out] = &mut lent;
         let stores = [words, samples, collide, rest, out].map(Lent::content);
-        let result = self.calls.build(gamma, given.content(), stores);
+        let result = self.calls.build(kind, gamma, given.content(), stores);
         same_number("result of build", result, wanted)?;
         for (lent, (name, store)) in lent.iter_mut().zip(after.named()) {
             lent.holds(name, store)?;
         }
         given.holds("ids", ids)?;
         self.counted("build", result);
-        Ok(())
+        Ok(result)
     }
 
     /// A lookup is the reading's: its result, and what it leaves in `place`.
@@ -90,7 +91,7 @@ impl Bench<'_> {
     }
 
     /// A row list is the reading's.
-    pub fn rows(&mut self, given: &Given, ids: &[u64], rows: &[u64], marks: &[u64]) -> Compared {
+    pub fn rows(&mut self, given: &Given, ids: &[u64], rows: &[u64], marks: &[u64]) -> Result<u64, Difference> {
         let (wanted, rows_after, marks_after) = given.rows(ids, rows, marks);
         let (mut rows, mut marks, mut given_ids) = (Lent::new(rows), Lent::new(marks), Lent::new(ids));
         let result = self
@@ -101,7 +102,7 @@ impl Bench<'_> {
         marks.holds("marks", &marks_after)?;
         given_ids.holds("ids", ids)?;
         self.counted("row list", result);
-        Ok(())
+        Ok(result)
     }
 
     /// The writer of images is the reading's: its result, and every byte of the image store. What it was given is as it was.

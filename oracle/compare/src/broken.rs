@@ -3,9 +3,10 @@
 use crate::bench::Bench;
 use crate::damage::other;
 use crate::images::{stores, unfit_numbers, unused_sizes};
+use crate::kinds;
 use crate::lent::{same_number, Compared};
 use crate::reading::bounds::*;
-use crate::reading::image::{block, blocks, check, image, ReadStores, FRONT};
+use crate::reading::image::{block, blocks, check, front, image, ReadStores, FORM, FORMS, OLDER};
 use crate::reading::index::Given;
 use crate::reading::refused;
 
@@ -21,9 +22,9 @@ fn bad_block(bench: &mut Bench, image: &[u8], before: &ReadStores, block: usize)
     same_number("bad block", after.out[0], block as u64)
 }
 
-/// Each bit of the image turned: the block that has it is bad.
+/// Each bit of the image turned, in a form that is drawn: the block that has it is bad.
 pub fn every_bit(bench: &mut Bench, index: &Given) -> Compared {
-    let mut image = image(&index.content());
+    let mut image = index.image(bench.one_of(&FORMS));
     let before = exact(bench, index);
     for byte in 0..image.len() {
         for bit in 0..8 {
@@ -37,20 +38,24 @@ pub fn every_bit(bench: &mut Bench, index: &Given) -> Compared {
 
 /// Every length up to 2,048 bytes.
 pub fn every_length(bench: &mut Bench, index: &Given) -> Compared {
-    of_lengths(bench, index, 0..=2_048)
+    let form = bench.one_of(&FORMS);
+    of_lengths(bench, index, form, 0..=2_048)
 }
 
 /// The lengths next to each multiple of 512 that is near the image's own.
 pub fn lengths(bench: &mut Bench, index: &Given) -> Compared {
-    let blocks = image(&index.content()).len() / BLOCK_BYTES;
-    let near = (blocks - 2..=blocks + 2).map(|blocks| BLOCK_BYTES * blocks);
-    let near = near.flat_map(|length| length.saturating_sub(1)..=length + 1);
-    of_lengths(bench, index, near)
+    for form in FORMS {
+        let blocks = index.image(form).len() / BLOCK_BYTES;
+        let near = (blocks - 2..=blocks + 2).map(|blocks| BLOCK_BYTES * blocks);
+        let near = near.flat_map(|length| length.saturating_sub(1)..=length + 1);
+        of_lengths(bench, index, form, near)?;
+    }
+    Ok(())
 }
 
-/// The image cut to each length, or followed by zeros or by anything.
-fn of_lengths(bench: &mut Bench, index: &Given, lengths: impl Iterator<Item = usize>) -> Compared {
-    let whole = image(&index.content());
+/// The image of this form cut to each length, or followed by zeros or by anything.
+fn of_lengths(bench: &mut Bench, index: &Given, form: u64, lengths: impl Iterator<Item = usize>) -> Compared {
+    let whole = index.image(form);
     let before = exact(bench, index);
     for length in lengths {
         let past = length.saturating_sub(whole.len());
@@ -71,7 +76,7 @@ fn of_lengths(bench: &mut Bench, index: &Given, lengths: impl Iterator<Item = us
 
 /// Blocks with right checks and wrong numbers, and whole blocks in each other's places.
 pub fn misplaced(bench: &mut Bench, index: &Given) -> Compared {
-    let content = index.content();
+    let content = index.content(bench.one_of(&FORMS));
     let parts: Vec<&[u64]> = content.chunks(BLOCK_CONTENT).collect();
     let before = exact(bench, index);
     let whole: Vec<Vec<u8>> = (0..).zip(&parts).map(|(number, part)| block(number, part)).collect();
@@ -98,30 +103,62 @@ pub fn misplaced(bench: &mut Bench, index: &Given) -> Compared {
     Ok(())
 }
 
-/// Content that is wrong or only other, in blocks with right numbers and checks: 15, or the index that it is. With damage of other sorts beside it, and in
-/// stores that are short, the first counts of 11 for `out`, 13, 14, 15 and 11.
+/// Content that is wrong or only other, in blocks with right numbers and checks: 15, 16, or the index that it is. With damage of other sorts beside it, and
+/// in stores that are short, the first counts of 11 for `out`, 13, 14, 15 for content word 0, 16, 15 and 11.
 pub fn mended(bench: &mut Bench, index: &Given) -> Compared {
-    for content in wrong_contents(index) {
-        crossed(bench, index, &image(&content), 15)?;
+    for form in FORMS {
+        for content in wrong_contents(index, form) {
+            crossed(bench, index, &image(&content), 15)?;
+        }
+        for content in other_contents(index, form) {
+            crossed(bench, index, &image(&content), 0)?;
+        }
     }
-    for content in other_contents(index) {
-        crossed(bench, index, &image(&content), 0)?;
+    unknown_kinds(bench, index)?;
+    relabelled(bench, index)
+}
+
+/// Kinds that are not known, by themselves and with each cause of 15: 16 counts, but for content word 0.
+fn unknown_kinds(bench: &mut Bench, index: &Given) -> Compared {
+    let content = index.content(FORM);
+    for kind in kinds::unknown(bench) {
+        crossed(bench, index, &image(&edited(&content, 1 + KIND, kind)), 16)?;
+    }
+    for content in wrong_contents(index, FORM) {
+        let number = if content[0] == FORM { 16 } else { 15 };
+        let kind = kinds::any(bench);
+        crossed(bench, index, &image(&edited(&content, 1 + KIND, kind)), number)?;
     }
     Ok(())
 }
 
-/// Each cause of 15.
-fn wrong_contents(index: &Given) -> Vec<Vec<u64>> {
-    let content = index.content();
-    let levels = index.head[1] as usize;
-    let head = unfit_numbers(levels).into_iter().chain(unused_sizes(levels));
-    let mut wrong: Vec<(usize, u64)> = head.map(|(place, number)| (1 + place, number)).collect();
-    wrong.extend([0, 2, 3, (1 << 32) + 1, u64::MAX].map(|form| (0, form)));
+/// Each form called the other. An older image then has its id count for a kind, and one level at least for an id count, which leaves a size for a level
+/// count. The other way round the level count is a size.
+fn relabelled(bench: &mut Bench, index: &Given) -> Compared {
+    let number = if index.head[IDS] == PLAIN { 15 } else { 16 };
+    crossed(bench, index, &image(&edited(&index.content(OLDER), 0, FORM)), number)?;
+    crossed(bench, index, &image(&edited(&index.content(FORM), 0, OLDER)), 15)
+}
+
+/// Where content of this form has what a head has at this place.
+fn at(form: u64, place: usize) -> usize {
+    front(form) - HEAD + place
+}
+
+/// Each cause of 15, but for the other form.
+fn wrong_contents(index: &Given, form: u64) -> Vec<Vec<u64>> {
+    let content = index.content(form);
+    let levels = index.head[LEVELS] as usize;
+    let mut head: Vec<(usize, u64)> = [unfit_numbers(levels), unused_sizes(levels)].concat();
     // One level fewer leaves a size that is not used and not 0, one more uses a size that is 0 or not there.
-    wrong.extend([(2, levels as u64 - 1), (2, levels as u64 + 1)]);
+    head.extend([(LEVELS, levels as u64 - 1), (LEVELS, levels as u64 + 1)]);
     // A block's worth of words more.
-    wrong.push((3, content[3] + 64 * BLOCK_CONTENT as u64));
-    let edited = wrong.iter().map(|(place, number)| edited(&content, *place, *number));
+    head.push((SIZES, index.head[SIZES] + 64 * BLOCK_CONTENT as u64));
+    let in_head = head.into_iter().map(|(place, number)| (at(form, place), number));
+    let forms = [0, 3, (1 << 32) + form, u64::MAX].map(|other| (0, other));
+    let edited = in_head
+        .chain(forms)
+        .map(|(place, number)| edited(&content, place, number));
     edited.chain(wrong_lengths(&content)).collect()
 }
 
@@ -152,15 +189,17 @@ fn wrong_lengths(content: &[u64]) -> Vec<Vec<u64>> {
     wrong
 }
 
-/// Other id counts, words and samples, all of which an image may have.
-fn other_contents(index: &Given) -> Vec<Vec<u64>> {
-    let content = index.content();
-    let (first, last) = (FRONT, content.len() - 1);
-    let edits = [(1, 0), (1, MAX_IDS), (first, !content[first]), (last, !content[last])];
-    edits.map(|(place, number)| edited(&content, place, number)).to_vec()
+/// Other id counts, words and samples, all of which an image may have. In the older form an id count stands where the other has a kind.
+fn other_contents(index: &Given, form: u64) -> Vec<Vec<u64>> {
+    let content = index.content(form);
+    let (first, last) = (front(form), content.len() - 1);
+    let counts = [0, 1, 2, MAX_IDS].map(|count| (at(form, IDS), count));
+    let edits = [(first, !content[first]), (last, !content[last])];
+    let edits = counts.into_iter().chain(edits);
+    edits.map(|(place, number)| edited(&content, place, number)).collect()
 }
 
-/// An image by itself has this refusal due, or none; with a bit turned it is 14, a byte short or long 13, both 13.
+/// An image by itself has this refusal due, or none; with a bit turned it is 14, a byte short or long 13, both 13: one of these, drawn.
 fn crossed(bench: &mut Bench, index: &Given, whole: &[u8], number: u64) -> Compared {
     let mut turned = whole.to_vec();
     let bit = bench.draw.below(8 * whole.len() as u64);
@@ -168,13 +207,14 @@ fn crossed(bench: &mut Bench, index: &Given, whole: &[u8], number: u64) -> Compa
     let [cut, both] = [whole, &turned].map(|image| &image[..image.len() - 1]);
     let longer = [whole, &[0]].concat();
     let [words, samples] = [index.words.len(), index.samples.len()];
-    for (image, number) in [(whole, number), (&turned, 14), (cut, 13), (both, 13), (&longer, 13)] {
+    let damaged = bench.one_of(&[(&turned[..], 14), (cut, 13), (both, 13), (&longer, 13)]);
+    for (image, number) in [(whole, number), damaged] {
         let short = if number == 0 { 11 } else { number };
         for (lengths, number) in [
             ([words, samples, OUT], number),
             ([words - 1, samples, OUT], short),
             ([words, samples - 1, OUT], short),
-            ([0, 0, OUT], short),
+            ([0, 0, OUT + 1], short),
             ([words, samples, OUT - 1], 11),
         ] {
             let before = stores(bench, lengths);
@@ -187,9 +227,9 @@ fn crossed(bench: &mut Bench, index: &Given, whole: &[u8], number: u64) -> Compa
 
 /// One to three acts of damage, drawn, and at times another length.
 pub fn drawn(bench: &mut Bench, index: &Given) -> Compared {
-    let whole = blocks(&image(&index.content()));
-    for _ in 0..12 {
-        let mut blocks = whole.clone();
+    let whole = FORMS.map(|form| blocks(&index.image(form)));
+    for round in 0..12 {
+        let mut blocks = whole[round % 2].clone();
         for _ in 0..1 + bench.draw.below(3) {
             damage(bench, &mut blocks);
         }
@@ -220,13 +260,9 @@ fn damage(bench: &mut Bench, blocks: &mut Vec<Vec<u64>>) {
         }),
         _ => {
             let any = bench.draw.below(BLOCK_WORDS as u64) as usize;
-            let front = bench.draw.below(7) as usize;
+            let front = bench.draw.below(8) as usize;
             let (number, word) = bench.one_of(&[(one, any), (0, front)]);
-            let most = match word {
-                2 => MAX_IDS,
-                3 => MAX_LEVELS as u64,
-                _ => MAX_BITS,
-            };
+            let most = bench.one_of(&[MAX_IDS, MAX_LEVELS as u64, MAX_BITS]);
             let words = &mut blocks[number];
             words[word] = other(bench, words[word], most);
             if bench.draw.below(8) > 0 {

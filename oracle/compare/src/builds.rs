@@ -1,9 +1,10 @@
 //! Whole indexes: a build in stores of every fit, every lookup, the row list.
 
 use crate::bench::{same_given, same_index, Bench};
+use crate::kinds;
 use crate::lent::{same_number, same_store, Compared};
-use crate::reading::bounds::{HEAD, OUT};
-use crate::reading::index::{run, Given, Run, Stores};
+use crate::reading::bounds::{HEAD, OUT, PLAIN};
+use crate::reading::index::{run, Asked, Given, Run, Stores};
 use crate::reading::{words_for, NONE};
 use oracle::boomphf::Mphf;
 use oracle::judge;
@@ -17,8 +18,16 @@ pub fn case(bench: &mut Bench, gamma: f64, ids: &[u64]) -> Compared {
         Some(index) => same_index(&run, &judge::stores(index))?,
         None => same_number("ids that remain", run.remain as u64, judge::remaining(gamma, ids))?,
     }
+    let asked = Asked {
+        kind: PLAIN,
+        gamma,
+        ids,
+        run: Some(&run),
+    };
     for before in rooms(bench, &run) {
-        bench.build(gamma, ids, Some(&run), &before)?;
+        bench.build(asked, &before)?;
+        let kind = kinds::any(bench);
+        kinds::unbuilt(bench, Asked { kind, ..asked }, &before)?;
     }
     if let Some(index) = judged {
         let given = given(&run, bench);
@@ -26,17 +35,28 @@ pub fn case(bench: &mut Bench, gamma: f64, ids: &[u64]) -> Compared {
         lookups(bench, &index, &given, ids)?;
         listed(bench, &index, &given, ids)?;
         same_given(&given, &before)?;
+        let kind = kinds::any(bench);
+        kinds::unanswered(bench, &kinds::of_kind(&given, kind), ids, 16)?;
     }
     Ok(())
 }
 
-/// A build that is refused for its gamma or its id count leaves all but `out` as it was.
+/// A build that is refused for its gamma or its id count leaves all but `out` as it was; and one that is refused for its kind, which comes first.
 pub fn out_of_bounds(bench: &mut Bench, gamma: f64, ids: &[u64]) -> Compared {
+    let asked = Asked {
+        kind: PLAIN,
+        gamma,
+        ids,
+        run: None,
+    };
     for out in [0, HEAD, OUT, OUT + 3] {
         let mut places = || bench.draw.below(4) as usize;
         let lengths = [places(), places(), places(), places(), out];
         let before = stores(bench, lengths);
-        bench.build(gamma, ids, None, &before)?;
+        bench.build(asked, &before)?;
+        for kind in kinds::unknown(bench) {
+            kinds::unbuilt(bench, Asked { kind, ..asked }, &before)?;
+        }
     }
     Ok(())
 }

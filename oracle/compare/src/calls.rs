@@ -30,9 +30,9 @@ pub struct Sets {
 }
 
 pub trait Calls {
-    fn build(&self, gamma: f64, ids: &[u64], stores: BuildStores) -> u64 {
+    fn build(&self, kind: u64, gamma: f64, ids: &[u64], stores: BuildStores) -> u64 {
         let [words, samples, collide, rest, out] = stores;
-        host::build(gamma, ids, words, samples, collide, rest, out)
+        host::build(kind, gamma, ids, words, samples, collide, rest, out)
     }
 
     fn lookup(&self, given: &Given, id: u64, place: &mut [u64]) -> u64 {

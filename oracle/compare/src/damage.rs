@@ -2,8 +2,9 @@
 
 use crate::bench::{same_given, Bench};
 use crate::builds::{given, lookup};
+use crate::kinds;
 use crate::lent::Compared;
-use crate::reading::bounds::{HEAD, HEAD_SIZES, MAX_BITS, MAX_IDS, MAX_LEVELS, MIN_BITS, PLACE};
+use crate::reading::bounds::*;
 use crate::reading::index::{run, Given};
 use crate::reading::words_for;
 use oracle::bitvector::BitVector;
@@ -44,12 +45,12 @@ pub fn case(bench: &mut Bench, gamma: f64, ids: &[u64]) -> Compared {
 
 /// One place of the head, the words or the samples, or a length.
 fn damage(bench: &mut Bench, given: &mut Given) {
-    let levels = given.head[1].clamp(1, HEAD_SIZES as u64);
-    match bench.draw.below(10) {
-        0 => given.head[0] = other(bench, given.head[0], MAX_IDS),
-        1 => given.head[1] = other(bench, given.head[1], MAX_LEVELS as u64),
+    let levels = given.head[LEVELS].clamp(1, HEAD_SIZES as u64);
+    match bench.draw.below(11) {
+        0 => given.head[IDS] = other(bench, given.head[IDS], MAX_IDS),
+        1 => given.head[LEVELS] = other(bench, given.head[LEVELS], MAX_LEVELS as u64),
         2 | 3 => {
-            let place = 2 + bench.draw.below(levels) as usize;
+            let place = SIZES + bench.draw.below(levels) as usize;
             given.head[place] = other(bench, given.head[place], MAX_BITS);
         }
         4 => given.words.truncate(given.words.len().saturating_sub(1)),
@@ -59,6 +60,7 @@ fn damage(bench: &mut Bench, given: &mut Given) {
                 given.samples[place] = other(bench, given.samples[place], MAX_IDS);
             }
         }
+        8 => given.head[KIND] = kinds::any(bench),
         _ => {
             if let Some(place) = any_place(bench, &given.words) {
                 given.words[place] ^= bench.one_of(&[1, 1 << 63, u64::MAX]) << bench.draw.below(64);
@@ -89,7 +91,7 @@ pub fn drawn(bench: &mut Bench) -> Compared {
     index.bitvecs = Mphf::<u64>::compute_ranks(bits);
     let [sizes, words, samples] = judge::stores(&index);
     let count = index.bitvecs.iter().map(|(level, _)| level.len()).sum();
-    let mut head = [vec![count, sizes.len() as u64], sizes].concat();
+    let mut head = [vec![PLAIN, count, sizes.len() as u64], sizes].concat();
     head.resize(HEAD, 0);
     let given = Given { head, words, samples };
     for _ in 0..200 {

@@ -3,7 +3,7 @@
 use crate::bench::{same_given, Bench};
 use crate::lent::{same_number, same_store, Compared};
 use crate::reading::bounds::*;
-use crate::reading::image::{blocks, image, ReadStores, FRONT};
+use crate::reading::image::{blocks, front, image, ReadStores, FORM, FORMS, OLDER};
 use crate::reading::index::{run, Given};
 use crate::reading::{refused, samples_for, words_for};
 use oracle::plain;
@@ -26,9 +26,9 @@ pub fn drawn(bench: &mut Bench) -> Given {
     of_sizes(bench, &sizes)
 }
 
-/// One level, or two, that leave so many words of the last block to the fill.
+/// One level, or two, that leave so many words of the last block to the fill; in the older form one more, or none and a block less.
 pub fn with_fill(bench: &mut Bench, fill: usize) -> Given {
-    let places = 4 * BLOCK_CONTENT - FRONT - fill;
+    let places = 4 * BLOCK_CONTENT - front(FORM) - fill;
     let taken = |size: &u64| words_for(*size) + samples_for(*size);
     let one = |places: usize| {
         let mut sizes = (MIN_BITS..=MAX_BITS).step_by(64);
@@ -43,8 +43,8 @@ pub fn with_fill(bench: &mut Bench, fill: usize) -> Given {
 
 /// Levels of these sizes with anything in their words and samples.
 fn of_sizes(bench: &mut Bench, sizes: &[u64]) -> Given {
-    let counts = [bench.draw.below(MAX_IDS + 1), sizes.len() as u64];
-    let mut head = [&counts, sizes].concat();
+    let numbers = [PLAIN, bench.draw.below(MAX_IDS + 1), sizes.len() as u64];
+    let mut head = [&numbers, sizes].concat();
     head.resize(HEAD, 0);
     let words = sizes.iter().map(|size| words_for(*size)).sum();
     let samples = sizes.iter().map(|size| samples_for(*size)).sum();
@@ -55,12 +55,14 @@ fn of_sizes(bench: &mut Bench, sizes: &[u64]) -> Given {
     }
 }
 
-/// The image of an index that uses up its words and samples.
+/// The image of an index that uses up its words and samples, and the older one, which is read and not written.
 pub fn case(bench: &mut Bench, index: &Given) -> Compared {
-    let image = image(&index.content());
+    let [older, image] = FORMS.map(|form| index.image(form));
+    checked(&older)?;
     checked(&image)?;
     written(bench, index, &image)?;
-    loaded(bench, index, &image)
+    loaded(bench, index, &older, &image)?;
+    loaded(bench, index, &image, &image)
 }
 
 /// The numbers and checks of its blocks, by the oracle's mixer.
@@ -107,8 +109,9 @@ fn written(bench: &mut Bench, index: &Given, image: &[u8]) -> Compared {
     Ok(())
 }
 
-/// In stores as long as needed, from every address modulo 8; in longer ones, from which it is written again; in ones that are short.
-fn loaded(bench: &mut Bench, index: &Given, image: &[u8]) -> Compared {
+/// In stores as long as needed, from every address modulo 8; in longer ones, from which it is written again, whatever its form, in the form that is
+/// written; in ones that are short.
+fn loaded(bench: &mut Bench, index: &Given, image: &[u8], in_form: &[u8]) -> Compared {
     let [words, samples] = [index.words.len(), index.samples.len()];
     for _ in 0..8 {
         let stores = stores(bench, [words, samples, OUT]);
@@ -118,8 +121,8 @@ fn loaded(bench: &mut Bench, index: &Given, image: &[u8]) -> Compared {
     }
     let stores_longer = stores(bench, [words + 3, samples + 2, OUT + 3]);
     let (_, after) = bench.image_read(image, &stores_longer)?;
-    let (_, again) = bench.image_write(&index_in(after), &vec![0; image.len()])?;
-    same_store("image written again", &again, image)?;
+    let (_, again) = bench.image_write(&index_in(after), &vec![0; in_form.len()])?;
+    same_store("image written again", &again, in_form)?;
     let any_words = bench.draw.below(words as u64) as usize;
     for lengths in [
         [words - 1, samples, OUT],
@@ -154,13 +157,15 @@ fn index_in(stores: ReadStores) -> Given {
 pub fn largest_level(bench: &mut Bench) -> Compared {
     for (size, written, read) in [(MAX_BITS, None, 0), (MAX_BITS + 1, Some(refused(7)), refused(15))] {
         let index = of_sizes(bench, &[size]);
-        let content = [&[1], &index.head[..], &index.words, &index.samples].concat();
-        let image = image(&content);
+        let [older, image] = [(OLDER, &index.head[IDS..]), (FORM, &index.head)]
+            .map(|(form, head)| image(&[&[form], head, &index.words, &index.samples].concat()));
         let (result, _) = bench.image_write(&index, &vec![0; image.len()])?;
         same_number("result", result, written.unwrap_or((image.len() / BLOCK_BYTES) as u64))?;
-        let before = stores(bench, [index.words.len(), index.samples.len(), OUT]);
-        let (result, _) = bench.image_read(&image, &before)?;
-        same_number("result", result, read)?;
+        for image in [older, image] {
+            let before = stores(bench, [index.words.len(), index.samples.len(), OUT]);
+            let (result, _) = bench.image_read(&image, &before)?;
+            same_number("result", result, read)?;
+        }
     }
     Ok(())
 }
@@ -168,19 +173,23 @@ pub fn largest_level(bench: &mut Bench) -> Compared {
 /// Half of a word, which a number in bounds does not reach.
 const HALF: u64 = 1 << 32;
 
+/// Lengths that no head has.
+pub const OTHER_LENGTHS: [usize; 6] = [0, 1, 2, HEAD - 2, HEAD - 1, HEAD + 1];
+
 /// Places of a head of so many levels, with numbers that cannot be there: 7 in a head, 15 in an image.
 pub fn unfit_numbers(levels: usize) -> Vec<(usize, u64)> {
     let ids = [MAX_IDS + 1, HALF, u64::MAX];
     let counts = [0, MAX_LEVELS as u64 + 1, HALF + levels as u64, u64::MAX];
     let sizes = [0, MIN_BITS - 1, MAX_BITS + 1, HALF + MIN_BITS, u64::MAX];
     let at = |place: usize, numbers: &[u64]| numbers.iter().map(move |number| (place, *number)).collect();
-    let places: [Vec<(usize, u64)>; 4] = [at(0, &ids), at(1, &counts), at(2, &sizes), at(1 + levels, &sizes)];
+    let last = SIZES + levels - 1;
+    let places: [Vec<(usize, u64)>; 4] = [at(IDS, &ids), at(LEVELS, &counts), at(SIZES, &sizes), at(last, &sizes)];
     places.concat()
 }
 
 /// The first and the last place past so many levels' sizes, if there is one, with sizes that an unused one cannot have: 15.
 pub fn unused_sizes(levels: usize) -> Vec<(usize, u64)> {
-    let unused = 2 + levels..HEAD;
+    let unused = SIZES + levels..HEAD;
     let ends = unused.clone().take(1).chain(unused.last());
     ends.flat_map(|place| [1, MIN_BITS, u64::MAX].map(|size| (place, size)))
         .collect()
@@ -188,10 +197,10 @@ pub fn unused_sizes(levels: usize) -> Vec<(usize, u64)> {
 
 /// Heads and stores that the writer refuses: 7 before 15, and both whether the image has room or not.
 pub fn unwritten(bench: &mut Bench, index: &Given) -> Compared {
-    let room = image(&index.content()).len();
+    let room = index.image(FORM).len();
     unfit(bench, index, room)?;
     let mut stray = index.clone();
-    for (place, size) in unused_sizes(index.head[1] as usize) {
+    for (place, size) in unused_sizes(index.head[LEVELS] as usize) {
         stray.head.clone_from(&index.head);
         stray.head[place] = size;
         not_written(bench, &stray, room, 15)?;
@@ -202,12 +211,12 @@ pub fn unwritten(bench: &mut Bench, index: &Given) -> Compared {
 /// The head with a number that cannot be, with too few or too many numbers, or with a store that is one short.
 fn unfit(bench: &mut Bench, index: &Given, room: usize) -> Compared {
     let mut given = index.clone();
-    for (place, number) in unfit_numbers(index.head[1] as usize) {
+    for (place, number) in unfit_numbers(index.head[LEVELS] as usize) {
         let right = std::mem::replace(&mut given.head[place], number);
         not_written(bench, &given, room, 7)?;
         given.head[place] = right;
     }
-    for length in [0, 1, 2, HEAD - 1, HEAD + 1] {
+    for length in OTHER_LENGTHS {
         given.head.resize(length, 0);
         not_written(bench, &given, room, 7)?;
         given.head.clone_from(&index.head);

@@ -6,6 +6,7 @@ mod builds;
 mod calls;
 mod damage;
 mod images;
+mod kinds;
 mod lent;
 mod plan;
 mod reading;
@@ -51,8 +52,8 @@ fn main() -> ExitCode {
 
 fn compare(plan: &Plan) -> Result<(), Box<dyn Error>> {
     let equal = plan.run(&Proved, SEED)?;
-    for (kind, calls) in &equal {
-        println!("{calls:>12} {kind}");
+    for (sort, calls) in &equal {
+        println!("{calls:>12} {sort}");
     }
     println!("compare: {} calls, all equal", equal.values().sum::<u64>());
     Ok(())

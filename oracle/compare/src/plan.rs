@@ -3,14 +3,14 @@
 use crate::bench::{Bench, Tally};
 use crate::calls::Calls;
 use crate::lent::{Compared, Difference};
-use crate::reading::bounds::{BLOCK_CONTENT, MAX_BITS, MAX_GAMMA, MAX_IDS, MIN_GAMMA};
+use crate::reading::bounds::{BLOCK_CONTENT, IDS, LEVELS, MAX_BITS, MAX_GAMMA, MAX_IDS, MIN_GAMMA};
 use crate::reading::index::Given;
-use crate::{broken, builds, damage, images, sets};
+use crate::{broken, builds, damage, images, kinds, sets};
 use oracle::bounds::LEAST_GAMMA;
 use oracle::draw::Draw;
 use oracle::ids::{colliding, consecutive, doubled, multiples, random, repeated};
 
-/// How many cases of each kind.
+/// How many cases of each sort.
 pub struct Plan {
     /// Indexes of up to 3,000 ids, and as many with drawn levels.
     pub small: u64,
@@ -76,7 +76,7 @@ const NO_GAMMAS: [f64; 9] = [
 ];
 
 impl Plan {
-    /// How many calls of each kind were equal; or the first case with a difference.
+    /// How many calls of each sort were equal; or the first case with a difference.
     pub fn run(&self, calls: &dyn Calls, seed: u64) -> Result<Tally, Difference> {
         let mut bench = Bench::new(calls, seed);
         bounds(&mut bench)?;
@@ -162,16 +162,16 @@ const LARGEST_CAPACITIES: [u64; 4] = [MAX_BITS, MAX_BITS - 1, MAX_BITS + 1, u64:
 /// No sort of answer that there is, is left out.
 fn complete(equal: &Tally) -> Compared {
     let refusals = [
-        ("build", &[1, 2, 3, 4, 5, 6, 11][..]),
-        ("lookup", &[7, 8, 11]),
-        ("row list", &[7, 11, 12]),
+        ("build", &[1, 2, 3, 4, 5, 6, 11, 16][..]),
+        ("lookup", &[7, 8, 11, 16]),
+        ("row list", &[7, 11, 12, 16]),
         ("set call", &[9, 10, 11]),
-        ("image write", &[7, 11, 15]),
-        ("image read", &[11, 13, 14, 15]),
+        ("image write", &[7, 11, 15, 16]),
+        ("image read", &[11, 13, 14, 15, 16]),
     ];
-    let answers = refusals.iter().flat_map(|(kind, numbers)| {
-        let refused = numbers.iter().map(move |number| format!("{kind}, refusal {number}"));
-        refused.chain([format!("{kind}, answered")])
+    let answers = refusals.iter().flat_map(|(call, numbers)| {
+        let refused = numbers.iter().map(move |number| format!("{call}, refusal {number}"));
+        refused.chain([format!("{call}, answered")])
     });
     for answer in answers.chain(["lookup, none".to_string()]) {
         if !equal.contains_key(&answer) {
@@ -213,7 +213,7 @@ type ImageCases = &'static [fn(&mut Bench, &Given) -> Compared];
 const FITS_AND_DAMAGE: ImageCases = &[images::case, broken::lengths, broken::drawn];
 
 /// Every cause of a refusal, by itself and with others.
-const CAUSES: ImageCases = &[images::unwritten, broken::mended, broken::misplaced];
+const CAUSES: ImageCases = &[images::unwritten, kinds::case, broken::mended, broken::misplaced];
 
 /// Of images that are small.
 const EVERY_BIT: ImageCases = &[broken::every_bit, broken::every_length];
@@ -221,7 +221,7 @@ const EVERY_BIT: ImageCases = &[broken::every_bit, broken::every_length];
 /// The image of an index, if there is one.
 fn imaged(bench: &mut Bench, index: Option<Given>, cases: &[ImageCases]) -> Compared {
     index.map_or(Ok(()), |index| {
-        let name = format!("image of {} ids in {} levels", index.head[0], index.head[1]);
+        let name = format!("image of {} ids in {} levels", index.head[IDS], index.head[LEVELS]);
         let mut cases = cases.iter().copied().flatten();
         cases.try_for_each(|case| named(&name, case(bench, &index)))
     })

@@ -1,6 +1,7 @@
 //! The comparison finds out calls that are not as promised: each of these is wrong in one thing.
 
 mod images;
+mod kinds;
 
 use crate::calls::{Act, BuildStores, Calls, Proved, Sets};
 use crate::lent::Lent;
@@ -35,10 +36,10 @@ fn the_proved_calls_are_equal() {
 struct Build(fn(&mut u64, &mut BuildStores));
 
 impl Calls for Build {
-    fn build(&self, gamma: f64, ids: &[u64], stores: BuildStores) -> u64 {
+    fn build(&self, kind: u64, gamma: f64, ids: &[u64], stores: BuildStores) -> u64 {
         let mut stores = stores;
         let [words, samples, collide, rest, out] = &mut stores;
-        let mut result = Proved.build(gamma, ids, [words, samples, collide, rest, out]);
+        let mut result = Proved.build(kind, gamma, ids, [words, samples, collide, rest, out]);
         (self.0)(&mut result, &mut stores);
         result
     }

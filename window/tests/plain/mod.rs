@@ -3,14 +3,19 @@
 /// Content words of a block, between its number and its check.
 const CONTENT: usize = 62;
 
+/// The form of an image, and the older one, which has no kind.
+pub const FORM: u64 = 2;
+pub const OLDER_FORM: u64 = 1;
+
 /// The image of an index of which every word and sample is used.
 pub fn image(head: &[u64], words: &[u64], samples: &[u64]) -> Vec<u8> {
-    blocks(&content(head, words, samples))
+    blocks(&content(FORM, head, words, samples))
 }
 
-/// What the blocks hold: the form, the head, the words, the samples.
-pub fn content(head: &[u64], words: &[u64], samples: &[u64]) -> Vec<u64> {
-    [&[1], head, words, samples].concat()
+/// What the blocks hold: the form, the head, which begins with the kind, the words, the samples.
+pub fn content(form: u64, head: &[u64], words: &[u64], samples: &[u64]) -> Vec<u64> {
+    let head = if form == OLDER_FORM { &head[1..] } else { head };
+    [&[form], head, words, samples].concat()
 }
 
 /// The blocks of a content, with zeros to the end of the last.

@@ -17,11 +17,11 @@ use Rattle.finding.proofs.find.Statement.{statement}
 use Rattle.finding.proofs.find.Tie as tie
 
 abbrev Inv-loop : tie.InvT-loop
-Inv-loop count levels sizes words samples id at₀ sampled₀ i₀ i-end at sampled i =
-    (i ≤ i-end) × (i-end ≡ levels) × Walk sizes i at sampled × ((m : ℕ) → m < i → bit-at position count (sizeAt sizes) words samples id m ≡ false)
+Inv-loop kind count levels sizes words samples id at₀ sampled₀ i₀ i-end at sampled i =
+    (i ≤ i-end) × (i-end ≡ levels) × Walk sizes i at sampled × ((m : ℕ) → m < i → bit-at (position kind) count (sizeAt sizes) words samples id m ≡ false)
 
 abbrev μ-loop : tie.MeasureT-loop
-μ-loop count levels sizes words samples id at₀ sampled₀ i₀ i-end at sampled i = i-end - i
+μ-loop kind count levels sizes words samples id at₀ sampled₀ i₀ i-end at sampled i = i-end - i
 
 -- the level of this turn
 here : (c : tie.After-u64s Inv-loop μ-loop)
@@ -37,7 +37,7 @@ here c =
 word-in : (c : tie.After-hashmod Inv-loop μ-loop) → c .hashmod .result / 64 < length (now (c .before .part .result))
 word-in c =
     let t = here (c .before .before) in
-    rw (c .hashmod .ensures, c .before .part .ensures) (spot-word _ _ _ _ _ (position-lt _ _ _ (t .positive)) (t .word-room) (c .before .before .u64s .ensures))
+    rw (c .hashmod .ensures, c .before .part .ensures) (spot-word _ _ _ _ _ (position-lt _ _ _ _ (t .positive)) (t .word-room) (c .before .before .u64s .ensures))
 
 ranked : (c : tie.After-samples Inv-loop μ-loop)
     → c .samples .result ≡ samplesOfSize (sizeAt (c .before .before .before .before .before .before .before .before .before .args .sizes .now) (c .before .before .before .before .before .before .loop .i))
@@ -47,7 +47,7 @@ sample-in : (c : tie.After-part2 Inv-loop μ-loop) → c .before .before .before
 sample-in c =
     let t = here (c .before .before .before .before .before .before) in
     rw (c .before .before .before .before .hashmod .ensures, c .part2 .ensures, ranked (c .before .before .before))
-    (spot-sample _ _ _ _ _ (position-lt _ _ _ (t .positive)) (t .sample-room) refl)
+    (spot-sample _ _ _ _ _ (position-lt _ _ _ _ (t .positive)) (t .sample-room) refl)
 
 returns : tie.Need-returns Inv-loop μ-loop
 returns c =
@@ -55,7 +55,7 @@ returns c =
     let s = u .before .before .before .before .before .before in
     let l = u .before .before .before .loop in
     c .row-at .ensures
-    ∙ here-found position (s .args .count) _ _ _ (s .args .id) (l .i) (l .at) (l .sampled) _ (here u) _ _
+    ∙ here-found (position (s .args .kind)) (s .args .count) _ _ _ (s .args .id) (l .i) (l .at) (l .sampled) _ (here u) _ _
     (c .before .before .before .before .before .before .part .ensures)
     (c .before .before .before .before .before .hashmod .ensures)
     (s .args .levels)
@@ -77,7 +77,7 @@ loop-again c =
       l .inv .1,
       walk-more _ (l .i) (l .at) (l .sampled) _ _ (l .inv .2) (s .pre .bounds .size-least (l .i) (omega arith)) (t .small) (u .u64s .ensures) (ranked (c .before .before)),
       below-more _ (l .i) (l .inv .3)
-          (not-here position (s .args .count) _ _ _ (s .args .id) (l .i) (l .at) (l .sampled) _ t _ _ (c .before .before .before .before .part .ensures)
+          (not-here (position (s .args .kind)) (s .args .count) _ _ _ (s .args .id) (l .i) (l .at) (l .sampled) _ t _ _ (c .before .before .before .before .part .ensures)
           (c .before .before .before .hashmod .ensures) _ (c .before .has-bit .ensures) (c .if1 .left)),
     )
 
@@ -86,7 +86,7 @@ returns-2 c =
     let l = c .before .loop in
     let s = c .before .before .before .before in
     let e : l .i ≡ s .args .levels = omega arith in
-    sym (found-none position (s .args .count) _ _ _ (s .args .id) (s .args .levels) (rw e at (l .inv .3)))
+    sym (found-none (position (s .args .kind)) (s .args .count) _ _ _ (s .args .id) (s .args .levels) (rw e at (l .inv .3)))
 
 pub find-spec : {M : Type 1} → statement M
 find-spec =

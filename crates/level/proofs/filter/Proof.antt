@@ -12,11 +12,11 @@ use Rattle.level.proofs.filter.Statement.{statement}
 use Rattle.level.proofs.filter.Tie as tie
 
 abbrev Inv-loop : tie.InvT-loop
-Inv-loop level size count rest₀ words₀ collide kept₀ i₀ rest words kept i =
-    (i ≤ count) × (count ≤ length rest₀) × (length words ≡ length words₀) × Filtered (position level size) collide i words₀ rest₀ kept words rest
+Inv-loop kind level size count rest₀ words₀ collide kept₀ i₀ rest words kept i =
+    (i ≤ count) × (count ≤ length rest₀) × (length words ≡ length words₀) × Filtered (position kind level size) collide i words₀ rest₀ kept words rest
 
 abbrev μ-loop : tie.MeasureT-loop
-μ-loop level size count rest₀ words₀ collide kept₀ i₀ rest words kept i = count - i
+μ-loop kind level size count rest₀ words₀ collide kept₀ i₀ rest words kept i = count - i
 
 pub filter-spec : {M : Type 1} → statement M
 filter-spec =

@@ -12,10 +12,10 @@ filter-one-spec =
     tie.close
     (tie.spec
     (λ c κs. search needs)
-    (λ c κs. let s = c .before .before .before in omega (arith, position-lt (s .args .level) (s .args .size) (s .args .id) (s .pre .positive)))
+    (λ c κs. let s = c .before .before .before in omega (arith, position-lt (s .args .kind) (s .args .level) (s .args .size) (s .args .id) (s .pre .positive)))
     (λ c κs.
     let s = c .before .before .before .before .before .before in
-    omega (arith, position-lt (s .args .level) (s .args .size) (s .args .id) (s .pre .positive)))
+    omega (arith, position-lt (s .args .kind) (s .args .level) (s .args .size) (s .args .id) (s .pre .positive)))
     (λ c. search needs)
     (λ c.
     let bit = c .before .before .before .before .before .before .hashmod .ensures in

@@ -12,12 +12,12 @@ use Rattle.level.proofs.mark.Statement.{statement}
 use Rattle.level.proofs.mark.Tie as tie
 
 abbrev Inv-loop : tie.InvT-loop
-Inv-loop level size ids words₀ collide₀ i₀ i-end words collide i =
+Inv-loop kind level size ids words₀ collide₀ i₀ i-end words collide i =
     (i ≤ length ids) × (i-end ≡ length ids) × (length words ≡ length words₀) × (length collide ≡ length collide₀)
-    × (markStores words collide ≡ markAll (position level size) (markStores words₀ collide₀) (take i ids))
+    × (markStores words collide ≡ markAll (position kind level size) (markStores words₀ collide₀) (take i ids))
 
 abbrev μ-loop : tie.MeasureT-loop
-μ-loop level size ids words₀ collide₀ i₀ i-end words collide i = i-end - i
+μ-loop kind level size ids words₀ collide₀ i₀ i-end words collide i = i-end - i
 
 pub mark-spec : {M : Type 1} → statement M
 mark-spec =

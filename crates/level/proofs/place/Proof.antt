@@ -22,7 +22,7 @@ place-spec =
     (λ c.
     let m = c .before .before .before .before .before .before .before .before .before .before .before .before in
     let s = m .before .before .before .before .before .before .before in
-    placed _ _ (λ id. position-lt (s .args .level) (s .args .size) id (s .pre .0 .positive)) (markStores _ _)
+    placed _ _ (λ id. position-lt (s .args .kind) (s .args .level) (s .args .size) id (s .pre .0 .positive)) (markStores _ _)
     (record {
       room = record { own = s .pre .0 .own-room; other = s .pre .0 .collide-room };
       own-clear = s .pre .2;

@@ -11,14 +11,14 @@ use Rattle.rows.proofs.are_apart.Statement.{statement}
 use Rattle.rows.proofs.are_apart.Tie as tie
 
 abbrev Inv-loop : tie.InvT-loop
-Inv-loop count levels sizes words samples ids marks₀ i₀ i-end marks i =
+Inv-loop kind count levels sizes words samples ids marks₀ i₀ i-end marks i =
     (i ≤ i-end)
     × (i-end ≡ length ids)
     × (length marks ≡ length marks₀)
-    × Marking (rowBy count levels sizes words samples) count marks₀ (take i ids) marks
+    × Marking (rowBy kind count levels sizes words samples) count marks₀ (take i ids) marks
 
 abbrev μ-loop : tie.MeasureT-loop
-μ-loop count levels sizes words samples ids marks₀ i₀ i-end marks i = i-end - i
+μ-loop kind count levels sizes words samples ids marks₀ i₀ i-end marks i = i-end - i
 
 pub are-apart-spec : {M : Type 1} → statement M
 are-apart-spec =
@@ -33,7 +33,7 @@ are-apart-spec =
     (λ c. omega arith)
     (λ c.
     let l = c .before .before .before .before .before .before .before .loop in
-    marking-ends _ _ (row-below _ _ _ _ _) _ _ _ (l .i) (omega arith) (l .inv .3) _ _ (c .before .before .before .mark-row .ensures)
+    marking-ends _ _ (row-below _ _ _ _ _ _) _ _ _ (l .i) (omega arith) (l .inv .3) _ _ (c .before .before .before .mark-row .ensures)
     (not-true (c .before .before .before .mark-row .result) (c .if1 .taken)))
     (λ c. omega arith)
     (λ c. omega arith)
@@ -42,7 +42,7 @@ are-apart-spec =
       omega arith,
       l .inv .1,
       omega arith,
-      marking-more _ _ (row-below _ _ _ _ _) _ _ _ (l .i) (omega arith) (l .inv .3) _ _ (omega arith) (c .before .before .before .mark-row .ensures)
+      marking-more _ _ (row-below _ _ _ _ _ _) _ _ _ (l .i) (omega arith) (l .inv .3) _ _ (omega arith) (c .before .before .before .mark-row .ensures)
           (not-false (c .before .before .before .mark-row .result) (c .if1 .left)),
     ))
     (λ c. omega arith)

@@ -49,5 +49,5 @@ list-rows-spec =
     (λ c.
     let f = c .before .before .before .before .before .before .before in
     let p = f .before .before .before .before in
-    right-ids _ _ _ _ _ _ (again f) (row-below _ _ _ _ _) (entry (first f) .pre .1 .0) (p .before .before .if1 .left)
+    right-ids _ _ _ _ _ _ (again f) (row-below _ _ _ _ _ _) (entry (first f) .pre .1 .0) (p .before .before .if1 .left)
     (passed (p .are-apart .ensures .are-apart) (c .before .before .before .before .if2 .left)) _ (c .before .before .write-rows .ensures)))

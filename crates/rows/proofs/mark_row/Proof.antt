@@ -13,7 +13,7 @@ mark-row-spec =
     (tie.spec
     (λ c κs. search needs)
     (λ c. search needs)
-    (λ c. mark-none _ _ (none-told _ _ _ _ _ _ (c .before .find .result) (c .before .find .ensures) (c .match .keys2)))
+    (λ c. mark-none _ _ (none-told _ _ _ _ _ _ _ (c .before .find .result) (c .before .find .ensures) (c .match .keys2)))
     (λ c κs.
     let f = c .before .before .before .before .find in
     omega (arith, told-below _ _ _ _ _ _ _ (f .result) _ (f .ensures) (c .before .before .place .given .1)))
@@ -21,4 +21,4 @@ mark-row-spec =
     (λ c.
     let p = c .before .before .before .before .before in
     let f = p .before .before .find in
-    mark-some _ _ _ _ _ (row-told _ _ _ _ _ _ (f .result) (f .ensures) _ (p .place .given .1)) (c .before .before .add-bit .ensures)))
+    mark-some _ _ _ _ _ (row-told _ _ _ _ _ _ _ (f .result) (f .ensures) _ (p .place .given .1)) (c .before .before .add-bit .ensures)))

@@ -17,8 +17,8 @@ write-row-spec =
     (tie.spec
     (λ c κs. search needs)
     (λ c. search needs)
-    (λ c. write-none _ _ _ (none-told _ _ _ _ _ _ (c .before .find .result) (c .before .find .ensures) (c .match .keys2)))
+    (λ c. write-none _ _ _ (none-told _ _ _ _ _ _ _ (c .before .find .result) (c .before .find .ensures) (c .match .keys2)))
     (λ c. omega (arith, in-store c))
     in-store
     (λ c. search needs)
-    (λ c. let f = c .before .before .before .find in write-some _ _ _ _ (row-told _ _ _ _ _ _ (f .result) (f .ensures) _ (c .before .place .given .1))))
+    (λ c. let f = c .before .before .before .find in write-some _ _ _ _ (row-told _ _ _ _ _ _ _ (f .result) (f .ensures) _ (c .before .place .given .1))))

@@ -9,14 +9,14 @@ use Rattle.rows.proofs.write_rows.Statement.{statement}
 use Rattle.rows.proofs.write_rows.Tie as tie
 
 abbrev Inv-loop : tie.InvT-loop
-Inv-loop count levels sizes words samples ids rows₀ i₀ i-end rows i =
+Inv-loop kind count levels sizes words samples ids rows₀ i₀ i-end rows i =
     (i ≤ i-end)
     × (i-end ≡ length ids)
     × (length rows ≡ length rows₀)
-    × (withIds (rowBy count levels sizes words samples) (drop i ids) rows ≡ withIds (rowBy count levels sizes words samples) ids rows₀)
+    × (withIds (rowBy kind count levels sizes words samples) (drop i ids) rows ≡ withIds (rowBy kind count levels sizes words samples) ids rows₀)
 
 abbrev μ-loop : tie.MeasureT-loop
-μ-loop count levels sizes words samples ids rows₀ i₀ i-end rows i = i-end - i
+μ-loop kind count levels sizes words samples ids rows₀ i₀ i-end rows i = i-end - i
 
 pub write-rows-spec : {M : Type 1} → statement M
 write-rows-spec =

@@ -29,11 +29,11 @@ build-level-spec =
     (λ c. search needs)
     (λ c.
     let m = c .before .before in
-    words-short _ _ _ (at-entry m .pre) (m .before .before .size .ensures) (m .before .u64s .ensures) (m .samples .ensures) positions (c .if1 .taken))
+    words-short _ _ _ (at-entry m .pre) (m .before .before .size .ensures) (m .before .u64s .ensures) (m .samples .ensures) (positions (at-entry m .args .kind)) (c .if1 .taken))
     (λ c. search needs)
     (λ c.
     let m = c .before .before .before .before in
-    samples-short _ _ _ (at-entry m .pre) (m .before .before .size .ensures) (m .before .u64s .ensures) (m .samples .ensures) positions (c .if2 .taken))
+    samples-short _ _ _ (at-entry m .pre) (m .before .before .size .ensures) (m .before .u64s .ensures) (m .samples .ensures) (positions (at-entry m .args .kind)) (c .if2 .taken))
     (λ c κs.
     let e = c .before .before .before in
     let m = at-measured e in
@@ -42,7 +42,7 @@ build-level-spec =
     let p = c .before .before .before .before .before .before .before .before in
     let e = at-room p in
     let m = at-measured e in
-    sampleable _ _ _ (at-entry m .pre) (m .before .before .size .ensures) (m .before .u64s .ensures) (m .samples .ensures) positions (e .before .before .if1 .left) (e .if2 .left)
+    sampleable _ _ _ (at-entry m .pre) (m .before .before .size .ensures) (m .before .u64s .ensures) (m .samples .ensures) (positions (at-entry m .args .kind)) (e .before .before .if1 .left) (e .if2 .left)
     (p .place-at .ensures))
     (λ c. omega (arith, at-entry (at-measured (at-room (at-placed (c .before .before .before)))) .pre .few-levels))
     (λ c. let e = at-room (at-placed (c .before .before .before .before)) in omega (arith, at-entry (at-measured e) .pre .in-words, at-entry (at-measured e) .good, e .before .before .if1 .left))
@@ -56,5 +56,5 @@ build-level-spec =
     let p = at-placed q in
     let e = at-room p in
     let m = at-measured e in
-    placed _ _ _ (at-entry m .pre) (m .before .before .size .ensures) (m .before .u64s .ensures) (m .samples .ensures) positions (e .before .before .if1 .left) (e .if2 .left)
+    placed _ _ _ (at-entry m .pre) (m .before .before .size .ensures) (m .before .u64s .ensures) (m .samples .ensures) (positions (at-entry m .args .kind)) (e .before .before .if1 .left) (e .if2 .left)
     (p .place-at .ensures) (q .sample-at .ensures)))

@@ -29,8 +29,23 @@ pub const SAMPLE_WORDS: usize = 8;
 /// and how many bits.
 pub const SAMPLE_BITS: usize = 64 * SAMPLE_WORDS;
 
-/// A head as numbers: id count, level count, sizes.
-pub const HEAD: usize = 2 + HEAD_SIZES;
+/// The only kind of hash that is known: the plain mixer.
+pub const PLAIN: u64 = 0;
+
+/// Where a head as numbers has its kind,
+pub const KIND: usize = 0;
+
+/// its id count,
+pub const IDS: usize = 1;
+
+/// its level count,
+pub const LEVELS: usize = 2;
+
+/// and its sizes.
+pub const SIZES: usize = 3;
+
+/// How many numbers a head is.
+pub const HEAD: usize = SIZES + HEAD_SIZES;
 
 /// What `out` of a build needs: the value that a refusal carries, and the head.
 pub const OUT: usize = 1 + HEAD;
@@ -51,4 +66,4 @@ pub const BLOCK_CONTENT: usize = 62;
 pub const MIN_IMAGE: usize = 1_024;
 
 /// The last number of the table of refusals.
-pub const LAST_REFUSAL: u64 = 15;
+pub const LAST_REFUSAL: u64 = 16;

@@ -1,14 +1,26 @@
 //! Images: an index as bytes, block by block. They are written and read by the words of the request, not by the definitions.
 
 use super::bounds::*;
-use super::index::{asked, mixed, Given};
+use super::index::{known, mixed, needs, Given};
 use super::*;
 
-/// Content word 0.
-const FORM: u64 = 1;
+/// Content word 0 as the writer writes it, and what follows is the whole head.
+pub const FORM: u64 = 2;
 
-/// How many content words stand before those of the levels: word 0 and the head.
-pub const FRONT: usize = 1 + HEAD;
+/// Content word 0 of older images, which have no kind, and are of the plain one.
+pub const OLDER: u64 = 1;
+
+/// The forms that the reader takes.
+pub const FORMS: [u64; 2] = [OLDER, FORM];
+
+/// How many content words of this form stand before those of the levels: word 0 and the head, its kind or not.
+pub fn front(form: u64) -> usize {
+    if form == OLDER {
+        HEAD
+    } else {
+        1 + HEAD
+    }
+}
 
 /// Word 63 of a block, by the words before it.
 pub fn check(words: &[u64]) -> u64 {
@@ -37,26 +49,31 @@ pub fn blocks(image: &[u8]) -> Vec<Vec<u64>> {
 
 /// Where a head that can be has a size past its levels' that is not 0.
 fn stray(head: &[u64]) -> bool {
-    head[2 + head[1] as usize..].iter().any(|size| *size != 0)
+    head[SIZES + head[LEVELS] as usize..].iter().any(|size| *size != 0)
 }
 
 impl Given {
-    /// What an image of the index carries, of a head that fits: nothing of the stores past what the levels use.
-    pub fn content(&self) -> Vec<u64> {
-        let [words, samples] = asked(&self.head).expect("the head fits");
-        [&[FORM], &self.head[..], &self.words[..words], &self.samples[..samples]].concat()
+    /// What an image of this form carries of the index, if that is not unfit: nothing of the stores past what the levels use.
+    pub fn content(&self, form: u64) -> Vec<u64> {
+        let [words, samples] = needs(&self.head).expect("the head fits");
+        let head = if form == OLDER { &self.head[IDS..] } else { &self.head };
+        [&[form], head, &self.words[..words], &self.samples[..samples]].concat()
+    }
+
+    pub fn image(&self, form: u64) -> Vec<u8> {
+        image(&self.content(form))
     }
 
     /// The writer: its result, and the image store as it leaves it.
     pub fn write(&self, store: &[u8]) -> (u64, Vec<u8>) {
         let unchanged = |number| (refused(number), store.to_vec());
-        if !self.fits() {
-            return unchanged(7);
+        if let Some(number) = self.unfit() {
+            return unchanged(number);
         }
         if stray(&self.head) {
             return unchanged(15);
         }
-        let image = image(&self.content());
+        let image = self.image(FORM);
         if store.len() < image.len() {
             return unchanged(11);
         }
@@ -104,28 +121,34 @@ fn loaded(image: &[u8], stores: &ReadStores) -> Result<Given, (u64, u64)> {
         return Err((14, bad));
     }
     let content: Vec<u64> = blocks.iter().flat_map(|words| words[1..63].to_vec()).collect();
-    let index = carried(&content).ok_or((15, 0))?;
+    let index = carried(&content).map_err(|number| (number, 0))?;
     if index.words.len() > stores.words.len() || index.samples.len() > stores.samples.len() {
         return Err((11, 0));
     }
     Ok(index)
 }
 
-/// The index that whole blocks carry, if they carry one, and nothing else.
-fn carried(content: &[u64]) -> Option<Given> {
-    if content[0] != FORM {
-        return None;
+/// The index that whole blocks carry, if they carry one, and nothing else; or 15 for content word 0, 16 for the kind, 15 for what comes after them.
+fn carried(content: &[u64]) -> Result<Given, u64> {
+    let form = content[0];
+    let head = match form {
+        OLDER => [&[PLAIN], &content[1..HEAD]].concat(),
+        FORM => content[1..1 + HEAD].to_vec(),
+        _ => return Err(15),
+    };
+    if !known(head[KIND]) {
+        return Err(16);
     }
-    let head = &content[1..FRONT];
-    let [words, samples] = asked(head)?;
-    let end = FRONT + words + samples;
+    let [words, samples] = needs(&head).ok_or(15_u64)?;
+    let front = front(form);
+    let end = front + words + samples;
     let needed = (end + BLOCK_CONTENT - 1) / BLOCK_CONTENT;
-    if stray(head) || content.len() != needed * BLOCK_CONTENT {
-        return None;
+    if stray(&head) || content.len() != needed * BLOCK_CONTENT || content[end..].iter().any(|word| *word != 0) {
+        return Err(15);
     }
-    content[end..].iter().all(|word| *word == 0).then(|| Given {
-        head: head.to_vec(),
-        words: content[FRONT..FRONT + words].to_vec(),
-        samples: content[FRONT + words..end].to_vec(),
+    Ok(Given {
+        head,
+        words: content[front..front + words].to_vec(),
+        samples: content[front + words..end].to_vec(),
     })
 }

@@ -12,8 +12,14 @@ fn seed_word(level: usize) -> u64 {
     4_u64.checked_pow(level as u32).unwrap_or(0)
 }
 
+/// Of the plain kind, as all that follows: of another kind there is no index.
 fn hash(level: usize, id: u64) -> u64 {
     mixed(id, seed_word(level))
+}
+
+/// 16 is due for every other kind.
+pub fn known(kind: u64) -> bool {
+    kind == PLAIN
 }
 
 /// The plain mixer.
@@ -104,26 +110,26 @@ pub struct Stores {
     pub out: Vec<u64>,
 }
 
-/// A build, by the run of its ids where gamma and id count are in bounds.
-pub fn build(gamma: f64, ids: &[u64], run: Option<&Run>, before: &Stores) -> (u64, Stores) {
+/// What a build is asked for: the kind, gamma, the ids, and their run where gamma and id count are in bounds.
+#[derive(Clone, Copy)]
+pub struct Asked<'a> {
+    pub kind: u64,
+    pub gamma: f64,
+    pub ids: &'a [u64],
+    pub run: Option<&'a Run>,
+}
+
+/// A build: its result, and the stores as it leaves them.
+pub fn build(asked: Asked, before: &Stores) -> (u64, Stores) {
     let mut after = before.clone();
     if before.out.len() < OUT {
         return (refused(11), after);
     }
     after.out = fronted(&[0; OUT], &before.out);
-    if gamma.is_nan() || gamma <= MIN_GAMMA {
-        return (refused(1), after);
+    if let Some(number) = unbuilt(asked, before) {
+        return (refused(number), after);
     }
-    if gamma > MAX_GAMMA {
-        return (refused(2), after);
-    }
-    if ids.len() as u64 > MAX_IDS {
-        return (refused(3), after);
-    }
-    let run = run.expect("all is in bounds");
-    if before.rest.len() < ids.len() || before.collide.len() < run.levels[0].words.len() {
-        return (refused(4), after);
-    }
+    let run = asked.run.expect("all is in bounds");
     after.collide.fill(0);
     after.rest.fill(0);
     let (number, value) = ending(run, before);
@@ -137,6 +143,25 @@ pub fn build(gamma: f64, ids: &[u64], run: Option<&Run>, before: &Stores) -> (u6
     after.samples.fill(0);
     after.out[0] = value;
     (refused(number), after)
+}
+
+/// The refusal that is due before the first level, if one is: the kind comes before all else.
+fn unbuilt(asked: Asked, stores: &Stores) -> Option<u64> {
+    let Asked { kind, gamma, ids, run } = asked;
+    if !known(kind) {
+        return Some(16);
+    }
+    if gamma.is_nan() || gamma <= MIN_GAMMA {
+        return Some(1);
+    }
+    if gamma > MAX_GAMMA {
+        return Some(2);
+    }
+    if ids.len() as u64 > MAX_IDS {
+        return Some(3);
+    }
+    let level_0 = &run.expect("all is in bounds").levels[0];
+    (stores.rest.len() < ids.len() || stores.collide.len() < level_0.words.len()).then_some(4)
 }
 
 /// 0, or 5 or 6 with what it gives.
@@ -169,17 +194,17 @@ impl Run {
     }
 
     pub fn head(&self) -> Vec<u64> {
-        let counts = vec![self.count as u64, self.levels.len() as u64];
-        filled([counts, self.sizes()].concat(), HEAD)
+        let front = vec![PLAIN, self.count as u64, self.levels.len() as u64];
+        filled([front, self.sizes()].concat(), HEAD)
     }
 }
 
-/// How many words and samples the sizes of a head ask for; or nothing where 7 is due for the head alone.
-pub fn asked(head: &[u64]) -> Option<[usize; 2]> {
-    if head.len() != HEAD || head[0] > MAX_IDS || !(1..=MAX_LEVELS as u64).contains(&head[1]) {
+/// How many words and samples the sizes of a head of any kind take; or nothing where 7 is due for its other numbers.
+pub fn needs(head: &[u64]) -> Option<[usize; 2]> {
+    if head[IDS] > MAX_IDS || !(1..=MAX_LEVELS as u64).contains(&head[LEVELS]) {
         return None;
     }
-    let sizes = &head[2..2 + head[1] as usize];
+    let sizes = &head[SIZES..SIZES + head[LEVELS] as usize];
     let bounded = sizes.iter().all(|size| (MIN_BITS..=MAX_BITS).contains(size));
     let sum = |need: fn(u64) -> usize| sizes.iter().map(|size| need(*size)).sum();
     bounded.then(|| [sum(words_for), sum(samples_for)])
@@ -195,21 +220,26 @@ pub struct Given {
 
 impl Given {
     fn count(&self) -> u64 {
-        self.head[0]
+        self.head[IDS]
     }
 
     fn sizes(&self) -> &[u64] {
-        &self.head[2..2 + self.head[1] as usize]
+        &self.head[SIZES..SIZES + self.head[LEVELS] as usize]
     }
 
-    /// Not refused with 7.
-    pub fn fits(&self) -> bool {
-        asked(&self.head).map_or(false, |[words, samples]| {
-            words <= self.words.len() && samples <= self.samples.len()
-        })
+    /// The refusal that head and stores have due, if one is: 7 for a head of another length, which has no kind to ask for; 16 for its kind; 7 for all else.
+    pub fn unfit(&self) -> Option<u64> {
+        if self.head.len() != HEAD {
+            return Some(7);
+        }
+        if !known(self.head[KIND]) {
+            return Some(16);
+        }
+        let room = |[words, samples]: [usize; 2]| words <= self.words.len() && samples <= self.samples.len();
+        (!needs(&self.head).map_or(false, room)).then_some(7)
     }
 
-    /// The row, level and position of an id, none, or 8; of a head that fits.
+    /// The row, level and position of an id, none, or 8; of an index that is not unfit.
     fn find(&self, id: u64) -> Result<Option<[u64; 3]>, u64> {
         let (mut words, mut samples) = (&self.words[..], &self.samples[..]);
         for (level, size) in self.sizes().iter().enumerate() {
@@ -238,8 +268,8 @@ impl Given {
         if place.len() < PLACE {
             return (refused(11), place.to_vec());
         }
-        if !self.fits() {
-            return (refused(7), place.to_vec());
+        if let Some(number) = self.unfit() {
+            return (refused(number), place.to_vec());
         }
         match self.find(id) {
             Ok(Some([row, level, position])) => (row, fronted(&[level, position], place)),
@@ -251,8 +281,8 @@ impl Given {
     /// A row list: its result, and rows and marks as it leaves them.
     pub fn rows(&self, ids: &[u64], rows: &[u64], marks: &[u64]) -> (u64, Vec<u64>, Vec<u64>) {
         let unchanged = |number| (refused(number), rows.to_vec(), marks.to_vec());
-        if !self.fits() {
-            return unchanged(7);
+        if let Some(number) = self.unfit() {
+            return unchanged(number);
         }
         let needed = words_for(self.count());
         if (rows.len() as u64) < self.count() || marks.len() < needed {

@@ -2,7 +2,7 @@
 
 use super::GAMMA;
 use crate::reading::bounds::{BLOCK_BYTES, BLOCK_CONTENT, OUT};
-use crate::reading::image::FRONT;
+use crate::reading::image::{front, FORM};
 use oracle::boomphf::Mphf;
 use oracle::gammas::timed;
 use shawltide::{host, Index, Refusal};
@@ -64,7 +64,7 @@ fn read(bytes: &[u8]) -> [Vec<Vec<u64>>; 2] {
 
 fn image(index: &Index) -> Vec<u8> {
     let (head, words, samples) = index.parts();
-    let content = FRONT + words.len() + samples.len();
+    let content = front(FORM) + words.len() + samples.len();
     let blocks = (content + BLOCK_CONTENT - 1) / BLOCK_CONTENT;
     let mut image = vec![0; BLOCK_BYTES * blocks];
     assert_eq!(host::image_write(head, words, samples, &mut image), blocks as u64);

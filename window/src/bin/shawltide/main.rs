@@ -17,7 +17,7 @@ use std::fmt::Display;
 use std::io::{self, BufWriter, ErrorKind, Write};
 use std::process::ExitCode;
 use streams::say;
-use words::{Asked, Source, Wanted};
+use words::{Asked, How, Source, Wanted};
 
 const HELP: &str = include_str!("help.txt");
 
@@ -78,9 +78,9 @@ fn run(asked: Asked) -> Result<Ended, Failure> {
         Asked::Build {
             file,
             image,
-            gamma,
+            how,
             quiet,
-        } => build(&file, &image, gamma, quiet),
+        } => build(&file, &image, how, quiet),
         Asked::Rows { from, quiet } => rows(&from, quiet, &mut output()?),
         Asked::Lookup { from, wanted, quiet } => lookup(&from, wanted, quiet, &mut output()?),
     }
@@ -102,7 +102,7 @@ fn version() -> String {
 }
 
 /// An image must not take the place of the ids that it is built of, nor of anything but an image.
-fn build(file: &OsStr, image: &OsStr, gamma: f64, quiet: bool) -> Result<Ended, Failure> {
+fn build(file: &OsStr, image: &OsStr, how: How, quiet: bool) -> Result<Ended, Failure> {
     let input = Input::open(file)?;
     if input.is(image) {
         return Err(Failure::of(
@@ -111,7 +111,7 @@ fn build(file: &OsStr, image: &OsStr, gamma: f64, quiet: bool) -> Result<Ended, 
         ));
     }
     making::ask_place(image)?;
-    let Built { index, time, .. } = input.build(gamma, quiet)?;
+    let Built { index, time, .. } = input.build(how, quiet)?;
     index.save(image).map_err(|error| making::failure(image, error))?;
     if !quiet {
         let summary = report::summary(&index, time);

@@ -3,7 +3,7 @@
 use crate::input::{read_ids, Lines};
 use crate::report::Report;
 use crate::streams::{self, Progress};
-use crate::words::Source;
+use crate::words::{How, Source};
 use crate::Failure;
 use shawltide::{ImageError, Index};
 use std::ffi::OsStr;
@@ -46,12 +46,13 @@ impl<'a> Input<'a> {
     }
 
     /// An index of its ids.
-    pub fn build(&self, gamma: f64, quiet: bool) -> Result<Built, Failure> {
+    pub fn build(&self, how: How, quiet: bool) -> Result<Built, Failure> {
         let mut progress = self.progress(quiet);
         let ids = self.ids(&mut progress)?;
         progress.building(ids.len());
         let start = Instant::now();
-        let index = Index::build(&ids, gamma).map_err(|refusal| Failure::of(self.name, refusal))?;
+        let index = Index::build_with(how.kind, &ids, how.gamma);
+        let index = index.map_err(|refusal| Failure::of(self.name, refusal))?;
         let time = start.elapsed();
         Ok(Built { ids, index, time })
     }
@@ -74,9 +75,9 @@ impl<'a> Input<'a> {
 /// The index and what there is to say about it.
 pub fn report(from: &Source, quiet: bool) -> Result<Report, Failure> {
     let (file, index, rows, time) = match from {
-        Source::Built(file, gamma) => {
+        Source::Built(file, how) => {
             let input = Input::open(file)?;
-            let Built { ids, index, time } = input.build(*gamma, quiet)?;
+            let Built { ids, index, time } = input.build(*how, quiet)?;
             let rows = input.rows(&index, &ids)?;
             (file, index, Some(rows), time)
         }

@@ -64,8 +64,9 @@ pub fn summary(index: &Index, time: Duration) -> String {
         0 => "-".to_string(),
         _ => format!("{:.2}", index.bits() as f64 / ids as f64),
     };
+    let kind = index.kind().map_or("-".to_string(), |kind| kind.to_string());
     let (levels, time) = (index.levels(), time.as_secs_f64());
-    format!("ids {ids}, levels {levels}, bits per id {bits}, time {time:.6} s")
+    format!("ids {ids}, kind {kind}, levels {levels}, bits per id {bits}, time {time:.6} s")
 }
 
 #[cfg(test)]
@@ -105,7 +106,7 @@ mod tests {
         assert_eq!(written(|out| report.rows(out)).0, "0 2 0 197\n1 3 1 58\n2 1 1 191\n");
         assert_eq!(
             summary(&report.index, TIME),
-            "ids 3, levels 2, bits per id 213.33, time 0.000012 s"
+            "ids 3, kind plain, levels 2, bits per id 213.33, time 0.000012 s"
         );
     }
 
@@ -151,7 +152,7 @@ mod tests {
         assert_eq!(written(|out| report.rows(out)).0, "");
         assert_eq!(
             summary(&report.index, TIME),
-            "ids 0, levels 1, bits per id -, time 0.000012 s"
+            "ids 0, kind plain, levels 1, bits per id -, time 0.000012 s"
         );
     }
 }

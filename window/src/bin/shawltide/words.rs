@@ -3,7 +3,7 @@
 use crate::input::parse_id;
 use crate::quoted::named;
 use crate::Failure;
-use shawltide::{Index, GAMMA};
+use shawltide::{Index, Kind, Refusal, GAMMA};
 use std::ffi::{OsStr, OsString};
 use std::os::unix::ffi::OsStrExt;
 
@@ -16,7 +16,7 @@ pub enum Asked {
     Build {
         file: OsString,
         image: OsString,
-        gamma: f64,
+        how: How,
         quiet: bool,
     },
     Rows {
@@ -33,10 +33,17 @@ pub enum Asked {
 /// Where the index comes from.
 #[derive(Debug, PartialEq)]
 pub enum Source {
-    /// It is built of the ids in this file, with this gamma.
-    Built(OsString, f64),
+    /// It is built of the ids in this file.
+    Built(OsString, How),
     /// It is read from this image. The ids, where they are asked for, are in this file.
     Image(OsString, Option<OsString>),
+}
+
+/// How an index is built.
+#[derive(Clone, Copy, Debug, PartialEq)]
+pub struct How {
+    pub kind: Kind,
+    pub gamma: f64,
 }
 
 /// The ids to look up: those given, or those of standard input.
@@ -77,7 +84,7 @@ fn build(rest: &[OsString]) -> Result<Asked, Failure> {
         [file, image] => Ok(Asked::Build {
             file: file.clone(),
             image: image_of(image)?,
-            gamma: given.gamma.unwrap_or(GAMMA),
+            how: given.how()?,
             quiet: given.quiet,
         }),
         _ => Err(Failure::usage("build needs a FILE and an IMAGE")),
@@ -86,14 +93,15 @@ fn build(rest: &[OsString]) -> Result<Asked, Failure> {
 
 fn rows(rest: &[OsString]) -> Result<Asked, Failure> {
     let given = Given::of(rest)?;
+    given.ask_image()?;
     let quiet = given.quiet;
-    match (&given.words[..], given.image) {
+    match (&given.words[..], &given.image) {
         ([file], Some(image)) => {
-            let from = Source::Image(image, Some(file.to_os_string()));
+            let from = Source::Image(image.clone(), Some(file.to_os_string()));
             Ok(Asked::Rows { from, quiet })
         }
         ([file], None) => {
-            let from = Source::Built(file.to_os_string(), given.gamma.unwrap_or(GAMMA));
+            let from = Source::Built(file.to_os_string(), given.how()?);
             Ok(Asked::Rows { from, quiet })
         }
         _ => Err(Failure::usage("rows needs one FILE, also with --image")),
@@ -102,11 +110,12 @@ fn rows(rest: &[OsString]) -> Result<Asked, Failure> {
 
 fn lookup(rest: &[OsString]) -> Result<Asked, Failure> {
     let given = Given::of(rest)?;
+    given.ask_image()?;
     let quiet = given.quiet;
-    match (&given.words[..], given.image) {
+    match (&given.words[..], &given.image) {
         ([], Some(_)) => Err(Failure::usage("lookup needs an ID")),
         (ids, Some(image)) => {
-            let from = Source::Image(image, None);
+            let from = Source::Image(image.clone(), None);
             let wanted = wanted(ids)?;
             Ok(Asked::Lookup { from, wanted, quiet })
         }
@@ -115,8 +124,8 @@ fn lookup(rest: &[OsString]) -> Result<Asked, Failure> {
             Err(Failure::usage("FILE and ID cannot both be standard input"))
         }
         ([file, ids @ ..], None) => {
-            let from = Source::Built(file.to_os_string(), given.gamma.unwrap_or(GAMMA));
             let wanted = wanted(ids)?;
+            let from = Source::Built(file.to_os_string(), given.how()?);
             Ok(Asked::Lookup { from, wanted, quiet })
         }
     }
@@ -138,7 +147,10 @@ fn id(word: &OsStr) -> Result<u64, Failure> {
 #[derive(Default)]
 struct Given<'a> {
     words: Vec<&'a OsString>,
-    gamma: Option<f64>,
+    /// The number, which need not be that of a known kind, and how it was given.
+    kind: Option<(u64, &'a OsStr)>,
+    /// Any number, and how it was given.
+    gamma: Option<(f64, &'a OsStr)>,
     image: Option<OsString>,
     quiet: bool,
 }
@@ -150,8 +162,10 @@ impl<'a> Given<'a> {
         let mut quiet = None;
         let mut rest = rest.iter();
         while let Some(word) = rest.next() {
-            if let Some(value) = value_of("--gamma", "a number", word, &mut rest)? {
-                once(&mut given.gamma, "--gamma", gamma_of(&value.to_string_lossy())?)?;
+            if let Some(value) = value_of("--kind", "a KIND", word, &mut rest)? {
+                once(&mut given.kind, "--kind", (kind_of(value)?, value))?;
+            } else if let Some(value) = value_of("--gamma", "a number", word, &mut rest)? {
+                once(&mut given.gamma, "--gamma", (gamma_of(value)?, value))?;
             } else if let Some(value) = value_of("--image", "an IMAGE", word, &mut rest)? {
                 once(&mut given.image, "--image", image_of(value)?)?;
             } else if word == "--quiet" {
@@ -165,10 +179,35 @@ impl<'a> Given<'a> {
             }
         }
         given.quiet = quiet.is_some();
-        if given.gamma.is_some() && given.image.is_some() {
-            return Err(Failure::usage("--gamma is for building, and an image is built already"));
-        }
         Ok(given)
+    }
+
+    /// What says how to build says nothing of an image.
+    fn ask_image(&self) -> Result<(), Failure> {
+        let building = [("--gamma", self.gamma.is_some()), ("--kind", self.kind.is_some())];
+        match building.iter().find(|(_, given)| *given && self.image.is_some()) {
+            Some((option, _)) => Err(Failure::usage(format!(
+                "{option} is for building, and an image is built already"
+            ))),
+            None => Ok(()),
+        }
+    }
+
+    /// Kind and gamma are judged as the build does, in its order: it is asked without ids, before any is read.
+    fn how(&self) -> Result<How, Failure> {
+        let refused = |option, word, refusal: Refusal| Failure::usage(format!("{option} {}: {refusal}", named(word)));
+        let mut how = How {
+            kind: Kind::default(),
+            gamma: GAMMA,
+        };
+        if let Some((number, word)) = self.kind {
+            how.kind = Kind::try_from(number).map_err(|refusal| refused("--kind", word, refusal))?;
+        }
+        if let Some((gamma, word)) = self.gamma {
+            Index::build_with(how.kind, &[], gamma).map_err(|refusal| refused("--gamma", word, refusal))?;
+            how.gamma = gamma;
+        }
+        Ok(how)
     }
 }
 
@@ -204,15 +243,21 @@ fn once<T>(place: &mut Option<T>, option: &str, value: T) -> Result<(), Failure>
     }
 }
 
-/// The build itself says whether it takes the gamma: it is asked without ids, before any is read.
-fn gamma_of(text: &str) -> Result<f64, Failure> {
-    let gamma = text
-        .parse()
-        .map_err(|_| Failure::usage(format!("--gamma {} is not a number", named(OsStr::new(text)))))?;
-    match Index::build(&[], gamma) {
-        Ok(_) => Ok(gamma),
-        Err(refusal) => Err(Failure::usage(format!("--gamma {text}: {refusal}"))),
+/// The number of a kind, known or not, that is given by its name or its number. Of those that are not known one has a name.
+fn kind_of(word: &OsStr) -> Result<u64, Failure> {
+    let text = word.to_string_lossy();
+    match text.parse::<Kind>() {
+        Ok(kind) => Ok(kind.number()),
+        Err(_) if text == "wyhash" => Ok(1),
+        Err(_) => parse_id(&text)
+            .map_err(|_| Failure::usage(format!("--kind {} is not a kind: give plain or 0", named(word)))),
     }
+}
+
+fn gamma_of(word: &OsStr) -> Result<f64, Failure> {
+    word.to_string_lossy()
+        .parse()
+        .map_err(|_| Failure::usage(format!("--gamma {} is not a number", named(word))))
 }
 
 #[cfg(test)]
@@ -227,8 +272,21 @@ mod tests {
         })
     }
 
+    /// Each line is a wrong usage, with this message.
+    fn refuse(cases: &[(&str, &str)]) {
+        for (line, message) in cases {
+            let refused = said(line).expect_err(line);
+            assert_eq!(refused, format!("{message} (see `shawltide help`)"));
+        }
+    }
+
+    fn plain(gamma: f64) -> How {
+        let kind = Kind::Plain;
+        How { kind, gamma }
+    }
+
     fn rows_of(file: &str, gamma: f64, quiet: bool) -> Result<Asked, String> {
-        let from = Source::Built(file.into(), gamma);
+        let from = Source::Built(file.into(), plain(gamma));
         Ok(Asked::Rows { from, quiet })
     }
 
@@ -269,7 +327,7 @@ mod tests {
     fn ids_to_look_up() {
         let lookup = |from, wanted, quiet| Ok(Asked::Lookup { from, wanted, quiet });
         let given = || Wanted::Given(vec![5, 16]);
-        let built = || Source::Built("f".into(), GAMMA);
+        let built = || Source::Built("f".into(), plain(GAMMA));
         assert_eq!(said("lookup f 5 0x10"), lookup(built(), given(), false));
         assert_eq!(said("lookup f - --quiet"), lookup(built(), Wanted::FromInput, true));
         let image = || Source::Image("i".into(), None);
@@ -284,12 +342,13 @@ mod tests {
             Ok(Asked::Build {
                 file,
                 image,
-                gamma,
+                how: plain(gamma),
                 quiet,
             })
         };
         assert_eq!(said("build f i"), build(GAMMA, false));
         assert_eq!(said("build --quiet f --gamma=2 i"), build(2.0, true));
+        assert_eq!(said("build f --kind plain i"), build(GAMMA, false));
         let rows = |image: &str| {
             let from = Source::Image(image.into(), Some("f".into()));
             Ok(Asked::Rows { from, quiet: false })
@@ -297,6 +356,24 @@ mod tests {
         assert_eq!(said("rows --image i f"), rows("i"));
         assert_eq!(said("rows f --image=a=b"), rows("a=b"));
         assert_eq!(said("rows f --image --gamma"), rows("--gamma"));
+    }
+
+    #[test]
+    fn kinds_by_name_and_by_number() {
+        for kind in ["plain", "0", "0x0", "00"] {
+            assert_eq!(said(&format!("rows f --kind {kind}")), rows_of("f", GAMMA, false));
+            assert_eq!(said(&format!("rows --kind={kind} f")), rows_of("f", GAMMA, false));
+        }
+    }
+
+    #[test]
+    fn kinds_that_are_not_known() {
+        for kind in ["wyhash", "1", "2", "0x100", "4294967296", "18446744073709551615"] {
+            let message = format!("--kind {kind}: {}", Refusal::UnknownKind);
+            for line in ["rows f", "lookup f 5", "lookup f -", "build f i"] {
+                refuse(&[(&format!("{line} --kind {kind}"), &message)]);
+            }
+        }
     }
 
     #[test]
@@ -308,9 +385,34 @@ mod tests {
     }
 
     #[test]
+    fn refused_words_about_kinds() {
+        let built = "--kind is for building, and an image is built already";
+        let no_image = "build takes no --image: IMAGE stands after FILE";
+        let unknown = format!("--kind 1: {}", Refusal::UnknownKind);
+        refuse(&[
+            ("rows f --kind", "--kind needs a KIND"),
+            ("rows f --kind=", "--kind \"\" is not a kind: give plain or 0"),
+            ("rows f --kind Plain", "--kind Plain is not a kind: give plain or 0"),
+            ("rows f --kind -1", "--kind -1 is not a kind: give plain or 0"),
+            (
+                "build f i --kind 18446744073709551616",
+                "--kind 18446744073709551616 is not a kind: give plain or 0",
+            ),
+            ("rows f --kind 0 --kind=plain", "--kind is given twice"),
+            ("rows f --gamma 17 --kind 1", &unknown),
+            ("rows f --kind 1 --gamma 17", &unknown),
+            ("rows f --kind plain --image i", built),
+            ("lookup 5 --image i --kind 0", built),
+            ("lookup 5 --image i --kind 1", built),
+            ("rows f --kind=wyhash --image i", built),
+            ("build f i --image x --kind 0", no_image),
+            ("build f i --kind 1 --image x --gamma 2", no_image),
+        ]);
+    }
+
+    #[test]
     fn refused_words() {
-        let refused = |line: &str| said(line).expect_err(line);
-        let cases = [
+        refuse(&[
             ("", "no command is given"),
             ("row f", "row is not a command"),
             ("rows", "rows needs one FILE, also with --image"),
@@ -329,7 +431,7 @@ mod tests {
             ("rows f --image i --image=i", "--image is given twice"),
             ("rows f --image -", "IMAGE has to be a file, not -"),
             (
-                "rows f --gamma 2 --image i",
+                "rows f --gamma 17 --image i",
                 "--gamma is for building, and an image is built already",
             ),
             ("rows --image i", "rows needs one FILE, also with --image"),
@@ -342,16 +444,17 @@ mod tests {
             ("--version f", "--version takes no other words"),
             ("rows f --gamma=nan", "--gamma nan: refusal 1: gamma is not above 1.01"),
             ("rows f --gamma 17", "--gamma 17: refusal 2: gamma is above 16"),
-        ];
-        for (line, message) in cases {
-            assert_eq!(refused(line), format!("{message} (see `shawltide help`)"));
-        }
+        ]);
     }
 
     #[test]
     fn odd_words_stay_on_one_line() {
-        let cases: [(&[&str], &str); 4] = [
+        let cases: [(&[&str], &str); 5] = [
             (&[""], "\"\" is not a command"),
+            (
+                &["rows", "--kind", "\r0"],
+                "--kind \"\\r0\" is not a kind: give plain or 0",
+            ),
             (&["a\nb"], "\"a\\nb\" is not a command"),
             (&["rows", "-\u{1b}[2J"], "\"-\\u{1b}[2J\" is not known"),
             (&["rows", "--gamma", "\r2"], "--gamma \"\\r2\" is not a number"),

@@ -14,4 +14,5 @@ at-spec =
     (λ c. search needs)
     (λ c. search needs)
     (λ c. search needs)
-    (λ c. let a = c .before .before .before .args in size-at _ _ (a .sizes .now) (a .i) (omega arith)))
+    (λ c. search needs)
+    (λ c. let a = c .before .before .before .before .args in size-at _ _ _ (a .sizes .now) (a .i) (omega arith)))

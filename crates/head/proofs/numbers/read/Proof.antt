@@ -6,13 +6,13 @@ use native.Mathlib.Omega.{arith}
 use lib.ListN.{length, take, drop, length-set}
 use borrow.Author.Needs.{needs}
 use Rattle.bounds.specs.Bounds.{headSizes}
-use Rattle.head.specs.Numbers.{headCounts}
+use Rattle.head.specs.Numbers.{beforeSizes}
 use Rattle.head.proofs.Written.{read-more, read-all, head-read}
 use Rattle.head.proofs.numbers.read.Statement.{statement}
 use Rattle.head.proofs.numbers.read.Tie as tie
 
 abbrev Inv-loop : tie.InvT-loop
-Inv-loop numbers sizes₀ i₀ sizes i = (i ≤ headSizes) × (length sizes ≡ headSizes) × (take i sizes ≡ take i (drop headCounts numbers))
+Inv-loop numbers sizes₀ i₀ sizes i = (i ≤ headSizes) × (length sizes ≡ headSizes) × (take i sizes ≡ take i (drop beforeSizes numbers))
 
 abbrev μ-loop : tie.MeasureT-loop
 μ-loop numbers sizes₀ i₀ sizes i = headSizes - i
@@ -40,8 +40,9 @@ read-spec =
     ))
     (λ c. search needs)
     (λ c. search needs)
+    (λ c. search needs)
     (λ c.
-    let l = c .before .before .before .loop in
-    let a = c .before .before .before .before .args .numbers .now in
+    let l = c .before .before .before .before .loop in
+    let a = c .before .before .before .before .before .args .numbers .now in
     let e : l .i ≡ headSizes = omega arith in
     head-read a (l .sizes) (read-all a (l .sizes) headSizes (l .inv .1) (omega arith) (rw e at (l .inv .2)))))

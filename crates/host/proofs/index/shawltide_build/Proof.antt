@@ -13,7 +13,7 @@ shawltide-build-spec =
     (λ c κs. search needs)
     (λ c.
     let a = c .before .before .before .before .before .before .before .before .args in
-    build-short (a .gamma) (a .ids .now) (stores (a .words .now) (a .samples .now) (a .collide .now) (a .rest .now)) (a .out .now) (omega (arith, c .before .if1 .taken)) (c .refused .ensures))
+    build-short (a .kind) (a .gamma) (a .ids .now) (stores (a .words .now) (a .samples .now) (a .collide .now) (a .rest .now)) (a .out .now) (omega (arith, c .before .if1 .taken)) (c .refused .ensures))
     (λ c κs. search needs)
     (λ c κs. search needs)
     (λ c κs. search needs)
@@ -26,5 +26,5 @@ shawltide-build-spec =
     (λ c.
     let a = c .before .before .before .before .before .before .before .before .before .before .before .before .before .before .before .before .before .before .before .before .before .before .before .before .before .before .before .before .before .args in
     let r = c .before .before .before .before .before .before .before .before .before .before .before .before .before .before .before .before .before .build .result in
-    build-asked (a .gamma) (a .ids .now) (stores (a .words .now) (a .samples .now) (a .collide .now) (a .rest .now)) (a .out .now) (r .outcome) (r .head) _ (omega (arith, c .before .before .before .before .before .before .before .before .before .before .before .before .before .before .before .before .before .before .before .before .before .before .if1 .left)) (c .made .ensures)
+    build-asked (a .kind) (a .gamma) (a .ids .now) (stores (a .words .now) (a .samples .now) (a .collide .now) (a .rest .now)) (a .out .now) (r .outcome) (r .head) _ (omega (arith, c .before .before .before .before .before .before .before .before .before .before .before .before .before .before .before .before .before .before .before .before .before .before .if1 .left)) (c .made .ensures)
     (c .before .before .before .before .before .before .value .ensures) (c .before .before .before .before .before .before .before .before .before .before .before .before .before .before .before .before .before .build .ensures) (c .before .before .before .write-out .ensures)))

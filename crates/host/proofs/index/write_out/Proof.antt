@@ -19,5 +19,5 @@ write-out-spec =
     (λ c. search needs)
     (λ c.
     let s = c .before .before .before .before .before in
-    let head : Head = record { count = s .args .count; levels = s .args .levels; sizes = s .args .sizes .now } in
+    let head : Head = record { kind = s .args .kind; count = s .args .count; levels = s .args .levels; sizes = s .args .sizes .now } in
     out-written (s .args .value) (numbersOf head) (s .args .out .now) (omega (arith, s .pre .1)) (c .before .before .write .ensures)))

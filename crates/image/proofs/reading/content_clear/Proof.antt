@@ -3,7 +3,6 @@ use mathlib.Core.Path.{_≡_, sym, _∙_}
 use mathlib.Core.Bool.{true}
 use Prim.Native.Nat.{_-_, _≤_}
 use native.Mathlib.Omega.{arith}
-use borrow.Author.Needs.{needs}
 use Rattle.laws.specs.Counting.{isClear}
 use Rattle.laws.proofs.Clear.{clear-none, clear-more, clear-less, not-clear}
 use Rattle.block.specs.Block.{contentAt}

@@ -3,7 +3,6 @@ use mathlib.Core.Path.{_≡_, refl}
 use Prim.Native.Nat.{_-_, _≤_}
 use native.Mathlib.Omega.{arith}
 use lib.ListN.{length, length-set}
-use borrow.Author.Needs.{needs}
 use Rattle.laws.specs.Counting.{each}
 use Rattle.laws.specs.Stores.{fronted}
 use Rattle.image.specs.Steps.{wordOrZero}

@@ -1,7 +1,5 @@
 -- `image::reading::word_or_zero` meets its contract. Assumes nothing.
-use mathlib.Core.Path.{_≡_}
 use native.Mathlib.Omega.{arith}
-use borrow.Author.Needs.{needs}
 use borrow.Author.Tests.{lt-ltb, le-ltb}
 use Rattle.image.proofs.reading.word_or_zero.Statement.{statement}
 use Rattle.image.proofs.reading.word_or_zero.Tie as tie

@@ -8,11 +8,11 @@ use Rattle.image.proofs.writing.write_blocks.Statement.{statement}
 use Rattle.image.proofs.writing.write_blocks.Tie as tie
 
 abbrev Inv-loop : tie.InvT-loop
-Inv-loop count levels sizes words samples n image₀ b₀ image b =
-    (b ≤ n) × (image ≡ blocksIn (contentOf (record { count = count; levels = levels; sizes = sizes }) words samples) image₀ b)
+Inv-loop kind count levels sizes words samples n image₀ b₀ image b =
+    (b ≤ n) × (image ≡ blocksIn (contentOf (record { kind = kind; count = count; levels = levels; sizes = sizes }) words samples) image₀ b)
 
 abbrev μ-loop : tie.MeasureT-loop
-μ-loop count levels sizes words samples n image₀ b₀ image b = n - b
+μ-loop kind count levels sizes words samples n image₀ b₀ image b = n - b
 
 pub write-blocks-spec : {M : Type 1} → statement M
 write-blocks-spec =

@@ -9,11 +9,11 @@ use Rattle.image.proofs.writing.write_content.Statement.{statement}
 use Rattle.image.proofs.writing.write_content.Tie as tie
 
 abbrev Inv-loop : tie.InvT-loop
-Inv-loop count levels sizes words samples b image₀ first from check₀ k₀ image check k =
-    (k ≤ blockContent) × ContentedTo (contentOf (record { count = count; levels = levels; sizes = sizes }) words samples) b image₀ k check image
+Inv-loop kind count levels sizes words samples b image₀ first from check₀ k₀ image check k =
+    (k ≤ blockContent) × ContentedTo (contentOf (record { kind = kind; count = count; levels = levels; sizes = sizes }) words samples) b image₀ k check image
 
 abbrev μ-loop : tie.MeasureT-loop
-μ-loop count levels sizes words samples b image₀ first from check₀ k₀ image check k = blockContent - k
+μ-loop kind count levels sizes words samples b image₀ first from check₀ k₀ image check k = blockContent - k
 
 pub write-content-spec : {M : Type 1} → statement M
 write-content-spec =
