@@ -1,6 +1,6 @@
 -- The checks of a build, and what it leaves with and without a run. Assumes nothing.
 use mathlib.Core.Path.{_≡_, refl, ap, subst, _∙_}
-use mathlib.Core.Bool.{Bool, true, false}
+use mathlib.Core.Bool.{true, false}
 use mathlib.Core.List.{List, _++_}
 use Prim.Native.Nat.{ℕ, _≤_, _<_}
 use lib.Ieee.{Float}
@@ -14,7 +14,7 @@ use Rattle.bounds.specs.Bounds.{maxIds, levelLimit, headSizes}
 use Rattle.laws.specs.Bits.{wordsFor}
 use Rattle.laws.proofs.Cases.{both}
 use Rattle.laws.proofs.Parts.{filled-whole}
-use Rattle.refusal.specs.Answers.{made, refused, check}
+use Rattle.refusal.specs.Answers.{made, refused}
 use Rattle.refusal.specs.declared.Refusal.{Refusal}
 use Rattle.refusal.specs.declared.Refusal.the-variants.{GammaTooSmall, GammaTooLarge, TooManyIds, ShortWorkStore, UnknownKind}
 use Rattle.laws.specs.Stores.{fronted, zeros}
@@ -23,6 +23,7 @@ use Rattle.sizes.specs.Gamma.{aboveMin, aboveMax, Allowed}
 use Rattle.sizes.specs.Sizes.{sizeFor}
 use Rattle.run.specs.Stores.{Stores, stores}
 use Rattle.build.specs.Build.{buildAfter, buildChecks, ended, buildCall}
+use Rattle.refusal.proofs.Passed.{done-passed}
 use Rattle.mixer.specs.Kinds.{kindOf}
 use Rattle.mixer.specs.declared.Kind.{Kind}
 use Rattle.mixer.specs.declared.KindOf.the-variants.{Known, Unknown}
@@ -87,18 +88,13 @@ pub record Passed (gamma : Float) (n collide rest : ℕ) : Type 0 where
   pub in-rest : n ≤ rest
   pub in-collide : wordsFor (sizeFor gamma n) ≤ collide
 
--- a check that does not end the checks was passed
-go-on : (test : Bool) (reason : Refusal) (next : Made) → check test reason Refused next ≡ Done → (test ≡ true) × (next ≡ Done)
-go-on true reason next e = (refl, e)
-go-on false reason next e = let z : _≡_ {A = ℕ} 0 1 = cc in absurd (omega arith)
-
 pub passed : (gamma : Float) (n collide rest : ℕ) → buildChecks gamma n collide rest ≡ Done → Passed gamma n collide rest
 unfolding buildChecks
 passed gamma n collide rest e =
-    let a = go-on _ _ _ e in
-    let b = go-on _ _ _ (a .1) in
-    let c = go-on _ _ _ (b .1) in
-    let d = both _ _ (go-on _ _ _ (c .1) .0) in
+    let a = done-passed _ _ _ e in
+    let b = done-passed _ _ _ (a .1) in
+    let c = done-passed _ _ _ (b .1) in
+    let d = both _ _ (done-passed _ _ _ (c .1) .0) in
     record {
       allowed = record { above = a .0; within = not-true _ (b .0) };
       few-ids = leb-true _ _ (c .0);

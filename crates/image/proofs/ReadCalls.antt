@@ -26,6 +26,7 @@ use Rattle.refusal.specs.declared.Made.{Made}
 use Rattle.refusal.specs.declared.Made.the-variants as M
 use Rattle.refusal.specs.declared.Refusal.{Refusal}
 use Rattle.refusal.specs.declared.Refusal.the-variants.{ShortOutput, UnfitLength, BadBlock, UnfitContent, UnknownKind}
+use Rattle.refusal.proofs.Passed.{done-passed}
 use Rattle.block.specs.Block.{blockContent, blockBytes, firstBad, contentAt}
 use Rattle.image.specs.Image.{olderForm, isForm, headPlace, leftOut, wordsPlace, contentEnd, imageBlocks, minBlocks, blockCount, lengthFits, badBlock, contentFrom, formIn, numbersIn, headIn, wordsIn, samplesIn, holdsIndex, ReadAfter, readAfter, readOf, readCall, blockChecks}
 use Rattle.image.specs.Steps.{contentMeasured}
@@ -130,17 +131,12 @@ module _ (image : List ℕ) (count levels : ℕ) (sizes : List ℕ) where
 
 -- ---- what is known once the checks of the blocks have passed
 
-both-passed : (t u : Bool) (r s : Refusal) → M.Done ≡ check t r M.Refused (check u s M.Refused M.Done) → (t ≡ true) × (u ≡ true)
-both-passed false u r s e = let z : _≡_ {A = ℕ} 0 1 = cc in absurd (omega arith)
-both-passed true false r s e = let z : _≡_ {A = ℕ} 0 1 = cc in absurd (omega arith)
-both-passed true true r s e = (refl, refl)
-
 module _ (image : List ℕ) (good : M.Done ≡ blockChecks image) where
   pub blocks-passed : (lengthFits image ≡ true) × (badBlock image ≡ blockCount image)
   unfolding blockChecks
   blocks-passed =
-      let t = both-passed (lengthFits image) (eqb (badBlock image) (blockCount image)) UnfitLength (BadBlock (badBlock image)) good in
-      (t .0, eqb-true _ _ (t .1))
+      let t = done-passed _ _ _ (sym good) in
+      (t .0, eqb-true _ _ (done-passed _ _ _ (t .1) .0))
 
   pub long-enough : blockBytes * minBlocks ≤ length image
   long-enough = leb-true _ _ (both _ _ (blocks-passed .0) .0)
