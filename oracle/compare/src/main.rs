@@ -35,6 +35,7 @@ fn main() -> ExitCode {
         ["long"] => compare(&plan::LONG),
         ["speed"] => speed::measure(),
         ["gammas"] => speed::gammas(),
+        ["sets"] => speed::sets::measure().map_err(Into::into),
         ["rows", file, gamma] => rows::write(file, gamma),
         _ => {
             eprint!("{USAGE}");

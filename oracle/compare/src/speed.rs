@@ -1,6 +1,7 @@
-//! Time of build and lookup at a million ids: boomphf against the crate of window/.
+//! Time of build and lookup at a million ids, of images, and of sets: boomphf against the crate of window/.
 
 mod images;
+pub mod sets;
 
 use oracle::boomphf::Mphf;
 use oracle::gammas::{best, ids, nanoseconds_an_id, timed, Shape, GAMMAS};
@@ -21,7 +22,7 @@ pub fn measure() -> Result<(), Box<dyn Error>> {
     for _ in 0..ROUNDS {
         round(GAMMA, &ids, &mut times)?;
     }
-    let [rust_build, our_build, rust_lookup, our_lookup] = times.map(median);
+    let [rust_build, our_build, rust_lookup, our_lookup] = times.map(|times| nanoseconds_an_id(median(times)));
     report("build", rust_build, our_build);
     report("lookup", rust_lookup, our_lookup);
     Ok(images::measure(&ids)?)
@@ -61,10 +62,9 @@ fn round(gamma: f64, ids: &[u64], times: &mut Times) -> Result<(), Refusal> {
     Ok(())
 }
 
-/// In nanoseconds an id.
-fn median(mut times: Vec<Duration>) -> f64 {
+fn median(mut times: Vec<Duration>) -> Duration {
     times.sort_unstable();
-    nanoseconds_an_id(times[times.len() / 2])
+    times[times.len() / 2]
 }
 
 fn report(what: &str, rust: f64, ours: f64) {

@@ -1,6 +1,6 @@
 //! Time of writing an index to bytes and of reading it back, at a million ids: boomphf's by a plain loop over its words, ours as an image.
 
-use super::GAMMA;
+use super::{median, GAMMA};
 use crate::reading::bounds::{BLOCK_BYTES, BLOCK_CONTENT, OUT};
 use crate::reading::image::{front, FORM};
 use oracle::boomphf::Mphf;
@@ -28,7 +28,7 @@ pub fn measure(ids: &[u64]) -> Result<(), Refusal> {
         assert!(our_again == [words, samples]);
         lengths = [bytes.len(), image.len()];
     }
-    let [rust_write, our_write, rust_read, our_read] = times.map(median);
+    let [rust_write, our_write, rust_read, our_read] = times.map(|times| median(times).as_secs_f64());
     report("write", lengths, [rust_write, our_write]);
     report("read", lengths, [rust_read, our_read]);
     Ok(())
@@ -76,11 +76,6 @@ fn loaded(image: &[u8], lengths: [usize; 2]) -> [Vec<u64>; 2] {
     let [mut words, mut samples] = lengths.map(|length| vec![0; length]);
     assert_eq!(host::image_read(image, &mut words, &mut samples, &mut [0; OUT]), 0);
     [words, samples]
-}
-
-fn median(mut times: Vec<Duration>) -> f64 {
-    times.sort_unstable();
-    times[times.len() / 2].as_secs_f64()
 }
 
 fn report(what: &str, lengths: [usize; 2], [rust, ours]: [f64; 2]) {
