@@ -7,6 +7,7 @@ use crate::checks::has_room;
 use crate::checks::is_sound;
 use crate::checks::yes_if;
 use crate::steps::count_bits;
+use crate::steps::has_at_most;
 use crate::steps::join;
 use crate::steps::list_bits;
 use crate::steps::same_left;
@@ -73,7 +74,7 @@ pub fn len(capacity: u64, words: &[u64]) -> Counted
     if !is_sound(capacity, words) {
         return Counted::Refused(Refusal::UnfitSet);
     }
-    Counted::Count(count_bits(words, u64s(capacity) as usize))
+    Counted::Count(count_bits(words, 0, u64s(capacity) as usize))
 }
 
 // Whether the bit is in the set.
@@ -158,10 +159,8 @@ pub fn members(capacity: u64, words: &[u64], out: &mut [u64]) -> Counted
         return Counted::Refused(Refusal::UnfitSet);
     }
     let need = u64s(capacity) as usize;
-    let size = count_bits(words, need);
-    if size > out.len() as u64 {
+    if !has_at_most(words, need, out.len()) {
         return Counted::Refused(Refusal::ShortOutput);
     }
-    list_bits(words, need, out);
-    Counted::Count(size)
+    Counted::Count(list_bits(words, need, out) as u64)
 }

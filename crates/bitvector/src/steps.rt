@@ -2,51 +2,110 @@
 ghost use mathlib.Core.Path.{_≡_};
 ghost use Prim.Native.Nat.{_+_, _*_, _≤_};
 ghost use lib.Count.{ones};
+ghost use lib.Dec.{leb, ltb};
 ghost use lib.ListN.{length};
-ghost use lib.Seq.{sets};
 ghost use Rattle.bounds.specs.Bounds.{maxBits};
 ghost use Rattle.laws.specs.Counting.{rank};
 ghost use Rattle.laws.specs.Bits.{wordsFor, has};
-ghost use Rattle.bitvector.specs.Sets.{sameBelow, rising};
-ghost use Rattle.bitvector.specs.Steps.{WordListed, Joined};
+ghost use Rattle.bitvector.specs.Sets.{sameBelow};
+ghost use Rattle.bitvector.specs.Steps.{WordListed, Listed, Front, Joined};
 
-// How many bits are set in the first n words.
-pub(crate) fn count_bits(words: &[u64], n: usize) -> u64
-    requires { ⌜ (n ≤ length (now words)) × (n ≤ wordsFor maxBits) ⌝ }
-    ensures { λ r. ⌜ r ≡ rank (has (now (words .entry))) (64 * n) ⌝ }
+// So many words are passed over at once where none has a bit.
+const GROUP: usize = 8;
+
+// How many bits are set in the words from `start` on and before `end`.
+pub(crate) fn count_bits(words: &[u64], start: usize, end: usize) -> u64
+    requires { ⌜ (start ≤ end) × (end ≤ length (now words)) × (end ≤ wordsFor maxBits) ⌝ }
+    ensures { λ r. ⌜ rank (has (now (words .entry))) (64 * start) + r ≡ rank (has (now (words .entry))) (64 * end) ⌝ }
 {
     let mut count: u64 = 0;
-    for i in 0..n {
+    for i in start..end {
         count += u64::count_ones(words[i]) as u64;
     }
     count
 }
 
-// The places of the word's set bits, from `base` on, rising, to `out` from `start` on; the place after them.
-fn list_word(word: u64, base: u64, out: &mut [u64], start: usize) -> usize
-    requires { ⌜ (base ≤ maxBits) × (start + ones word ≤ length (now out)) ⌝ }
-    ensures { λ r. ⌜ WordListed base word start (now (out .entry)) r (now (out .exit)) ⌝ }
+// Whether a bit is set in the words from `start` on and before `end`.
+fn any_bit(words: &[u64], start: usize, end: usize) -> bool
+    requires { ⌜ (start ≤ end) × (end ≤ length (now words)) ⌝ }
+    ensures { λ r. ⌜ r ≡ ltb (rank (has (now (words .entry))) (64 * start)) (rank (has (now (words .entry))) (64 * end)) ⌝ }
+{
+    let mut all: u64 = 0;
+    for i in start..end {
+        all |= words[i];
+    }
+    all != 0
+}
+
+// How many bits are set in the first n words, of which many may be 0.
+fn count_sparse(words: &[u64], n: usize) -> u64
+    requires { ⌜ (n ≤ length (now words)) × (n ≤ wordsFor maxBits) ⌝ }
+    ensures { λ r. ⌜ r ≡ rank (has (now (words .entry))) (64 * n) ⌝ }
+{
+    let groups = n / GROUP;
+    let mut count: u64 = 0;
+    for g in 0..groups {
+        let at = g * GROUP;
+        if any_bit(words, at, at + GROUP) {
+            count += count_bits(words, at, at + GROUP);
+        }
+    }
+    count + count_bits(words, groups * GROUP, n)
+}
+
+// Whether at most so many bits are set in the first n words. They are counted only where there may be more.
+pub(crate) fn has_at_most(words: &[u64], n: usize, most: usize) -> bool
+    requires { ⌜ (n ≤ length (now words)) × (n ≤ wordsFor maxBits) ⌝ }
+    ensures { λ r. ⌜ r ≡ leb (rank (has (now (words .entry))) (64 * n)) most ⌝ }
+{
+    if n <= most / 64 {
+        return true;
+    }
+    count_sparse(words, n) <= most as u64
+}
+
+// The word's set bits, counted from `base` on, rising, to `out` from `place` on; the place after them.
+fn list_word(word: u64, base: u64, out: &mut [u64], place: usize) -> usize
+    requires { ⌜ (base ≤ maxBits) × (place + ones word ≤ length (now out)) ⌝ }
+    ensures { λ r. ⌜ WordListed base word place (now (out .entry)) r (now (out .exit)) ⌝ }
 {
     let mut rest = word;
-    let mut next = start;
+    let mut next = place;
     while rest != 0 {
-        let k = u64::trailing_zeros(rest) as u64;
-        out[next] = base + k;
+        out[next] = base + u64::trailing_zeros(rest) as u64;
         next += 1;
-        rest -= 1 << k;
+        rest &= rest - 1;
     }
     next
 }
 
-// The bits set in the first n words, rising, to the front of `out`.
-pub(crate) fn list_bits(words: &[u64], n: usize, out: &mut [u64])
-    requires { ⌜ (n ≤ length (now words)) × (n ≤ wordsFor maxBits) × (rank (has (now words)) (64 * n) ≤ length (now out)) ⌝ }
-    ensures { λ _. ⌜ now (out .exit) ≡ sets (now (out .entry)) 0 (rising (has (now (words .entry))) (64 * n)) ⌝ }
+// The bits set in the words from `start` on and before `end`, rising, to `out` from `place` on; the place after them.
+fn list_words(words: &[u64], start: usize, end: usize, out: &mut [u64], place: usize) -> usize
+    requires { ⌜ (start ≤ end) × (end ≤ length (now words)) × (end ≤ wordsFor maxBits) ⌝ }
+    requires { ⌜ place + rank (has (now words)) (64 * end) ≤ length (now out) + rank (has (now words)) (64 * start) ⌝ }
+    ensures { λ r. ⌜ Listed (now (words .entry)) start end place (now (out .entry)) r (now (out .exit)) ⌝ }
 {
-    let mut next: usize = 0;
-    for i in 0..n {
+    let mut next = place;
+    for i in start..end {
         next = list_word(words[i], (i as u64) * 64, out, next);
     }
+    next
+}
+
+// The bits set in the first n words, of which many may be 0, rising, to the front of `out`; how many they are.
+pub(crate) fn list_bits(words: &[u64], n: usize, out: &mut [u64]) -> usize
+    requires { ⌜ (n ≤ length (now words)) × (n ≤ wordsFor maxBits) × (rank (has (now words)) (64 * n) ≤ length (now out)) ⌝ }
+    ensures { λ r. ⌜ Front (now (words .entry)) (now (out .entry)) n r (now (out .exit)) ⌝ }
+{
+    let groups = n / GROUP;
+    let mut next: usize = 0;
+    for g in 0..groups {
+        let at = g * GROUP;
+        if any_bit(words, at, at + GROUP) {
+            next = list_words(words, at, at + GROUP, out, next);
+        }
+    }
+    list_words(words, groups * GROUP, n, out, next)
 }
 
 // Puts the bits of the first `count` words of `other` into those of `words`; whether one was new.

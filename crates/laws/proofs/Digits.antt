@@ -4,14 +4,14 @@ use mathlib.Core.Path.{_≡_, refl, sym, ap, ap₂, _∙_, subst}
 use mathlib.Core.Bool.{Bool, true, false, _||_}
 use mathlib.Core.Logic.{_≢_}
 use Prim.Native.Nat.{ℕ, zero, suc, _+_, _-_, _*_, _/_, _%_, _^_, _≤_, _<_, max, suc-le-suc}
-use native.Mathlib.Nat.{add-zero, add-comm, add-div-right, add-mul-div-right, div-lt-iff-lt-mul, div-one, le-dest, le-div-iff-mul-le}
-use native.Mathlib.Nat.{mod-eq-of-lt, mod-lt, mul-assoc, mul-mod-left, one-mul, pow-suc, zero-lt-suc}
+use native.Mathlib.Nat.{add-zero, add-comm, add-div-right, add-mul-div-right, div-add-mod', div-lt-iff-lt-mul, div-one, le-dest, le-div-iff-mul-le}
+use native.Mathlib.Nat.{mod-eq-of-lt, mod-lt, mod-self, mul-assoc, mul-mod-left, one-mul, pow-suc, zero-lt-suc}
 use native.Mathlib.Numerals.{add-one, one-add}
 use native.Mathlib.Decide.{decLt}
 use native.Mathlib.Omega.{arith}
 use borrow.Author.Tests.{lt-ltb, le-ltb}
 use lib.Arith.{bin-ind, digits-mod, lt-one}
-use lib.Bits.{bitOr, or-lt, or-shr, or-step}
+use lib.Bits.{bitAnd, bitOr, and-block, and-mask, and-self, or-lt, or-shr, or-step}
 use lib.Count.{ones, ones-cat, ones-step, trailingZeros, under}
 use lib.Dec.{eqb, ltb}
 use lib.Pow.{pow-pos, pow-add, mod-pow-add, pow-lt, shl-shr, shr-lt, shr-shr, high}
@@ -249,3 +249,16 @@ lowest (suc d) w h n = go (w % 2) refl (λ e. lowest d (w / 2) (shr-lt d 1 (rw (
         let t = r e in
         record { within = suc-le-suc (t .within); set = sym (up (trailingZeros d (w / 2))) ∙ t .set; first = below e (trailingZeros d (w / 2)) (t .first) }
     go (suc q) e r = record { within = zero-lt-suc d; set = ap (λ (x : ℕ). x % 2) (div-one w) ∙ omega arith; first = λ j l. absurd (omega arith) }
+
+-- cleared by `&` with the number before
+pub lowest-off : {d w t : ℕ} → Lowest d w t → bitAnd w (w - 1) ≡ w - 2 ^ t
+lowest-off {w = w} {t = t} l =
+    let p : ℕ = 2 ^ suc t in
+    let h : ℕ = w / p in
+    let none : w % 2 ^ t ≡ 0 = digits-sum w t ∙ sum-same _ (λ j. 0) t (λ j m. rw (l .first j m) (omega arith)) ∙ sum-zero t in
+    let low : w % p ≡ 2 ^ t = low-suc w t ∙ rw (l .set, none) (omega arith) in
+    let whole : h * p + 2 ^ t ≡ w = ap (λ (x : ℕ). h * p + x) (sym low) ∙ div-add-mod' w p in
+    let less : h * p + (2 ^ t - 1) ≡ w - 1 = omega (arith, whole, pow-pos t) in
+    let small : 2 ^ t < p = omega (arith, pow-suc 2 t, pow-pos t) in
+    ap₂ bitAnd (sym whole) (sym less) ∙ and-block (suc t) h h (2 ^ t) (2 ^ t - 1) small (omega arith)
+    ∙ omega (arith, whole, ap (λ (x : ℕ). x * p) (and-self h), and-mask (2 ^ t) t, mod-self (2 ^ t))

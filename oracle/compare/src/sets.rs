@@ -64,11 +64,12 @@ fn sets(bench: &mut Bench, capacity: u64) -> Sets {
 
 fn drawn(bench: &mut Bench, capacity: u64) -> Vec<u64> {
     let needed = words_for(capacity.min(MAX_BITS));
-    let sparse = bench.draw.below(3);
+    let sparse = bench.draw.below(4);
     let mut words: Vec<u64> = (0..needed)
         .map(|_| match sparse {
             0 => 0,
             1 => 1 << bench.draw.below(64),
+            2 if bench.draw.below(12) > 0 => 0,
             _ => bench.draw.next(),
         })
         .collect();

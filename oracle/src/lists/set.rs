@@ -9,6 +9,9 @@ use crate::list::List;
 /// Around multiples of 64.
 const CAPACITIES: [u64; 14] = [0, 1, 2, 63, 64, 65, 127, 128, 129, 191, 192, 193, 255, 256];
 
+/// Of sets with few members: around the ends of eight words, which may be passed over at once.
+const SPARSE: [u64; 9] = [448, 511, 512, 513, 576, 1023, 1024, 1025, 1600];
+
 /// `capacity, done, words before, words after`
 pub fn new() -> List {
     made(&CAPACITIES, 4, BitVector::new)
@@ -82,9 +85,19 @@ pub fn eq_left() -> List {
 
 /// `capacity, how many, words, members`
 pub fn members() -> List {
-    each_set(13, |list, _, set| {
-        list.case(&[vec![set.capacity(), set.len()], words(&set), set.iter().collect()].concat())
-    })
+    let listed = |set: &BitVector| [vec![set.capacity(), set.len()], words(set), set.iter().collect()].concat();
+    let mut list = each_set(13, |list, _, set| list.case(&listed(&set)));
+    let mut draw = draw(19);
+    for capacity in SPARSE {
+        for members in 0..8 {
+            let mut set = BitVector::new(capacity);
+            for _ in 0..members {
+                set.insert(draw.below(capacity));
+            }
+            list.case(&listed(&set));
+        }
+    }
+    list
 }
 
 /// A set made anew, over words of a store that held anything.

@@ -1,7 +1,8 @@
 -- `bitvector::len` meets its contract. Assumes nothing.
 use borrow.Author.Needs.{needs}
-use mathlib.Core.Path.{ap, _∙_}
+use mathlib.Core.Path.{sym, ap, _∙_}
 use Prim.Native.Nat.{ℕ, _*_}
+use native.Mathlib.Nat.{zero-add}
 use native.Mathlib.Omega.{arith}
 use Rattle.laws.specs.Counting.{rank}
 use Rattle.laws.specs.Bits.{has}
@@ -21,4 +22,4 @@ len-spec =
     (λ c κs. let r = sound-room _ _ (passed (c .before .before .is-sound .ensures) (c .before .if1 .left)) in omega arith)
     (λ c.
     all-counted _ _ (passed (c .before .before .before .is-sound .ensures) (c .before .before .if1 .left)) _
-    (c .count-bits .ensures ∙ ap (λ (n : ℕ). rank (has (c .before .before .before .before .before .args .words .now)) (64 * n)) (c .before .u64s .ensures))))
+    (sym (zero-add _) ∙ c .count-bits .ensures ∙ ap (λ (n : ℕ). rank (has (c .before .before .before .before .before .args .words .now)) (64 * n)) (c .before .u64s .ensures))))

@@ -1,25 +1,34 @@
 -- `bitvector::steps::list_bits` meets its contract. Assumes nothing.
-use borrow.Author.Needs.{needs}
-use mathlib.Core.Path.{_≡_, refl, ap, _∙_}
-use Prim.Native.Nat.{ℕ, _+_, _*_, _-_, _≤_}
+use mathlib.Core.Path.{_≡_}
+use mathlib.Core.Logic.{⊎-elim}
+use Prim.Native.Nat.{_+_, _*_, _/_, _-_, _≤_}
 use native.Mathlib.Omega.{arith}
-use lib.ListN.{length}
-use lib.Seq.{sets, length-sets}
-use Rattle.laws.specs.Counting.{one, rank}
+use Rattle.laws.specs.Counting.{one}
 use Rattle.laws.specs.Bits.{has}
 use Rattle.laws.proofs.Sums.{sum-mono}
-use Rattle.laws.proofs.Ones.{rank-next}
-use Rattle.bitvector.specs.Sets.{rising}
-use Rattle.bitvector.proofs.Rising.{list-turn}
+use Rattle.bitvector.proofs.Sizes.{none-between}
+use Rattle.bitvector.specs.Steps.{Front}
+use Rattle.bitvector.proofs.Rising.{front-none, front-length, front-on, front-over}
 use Rattle.bitvector.proofs.steps.list_bits.Statement.{statement}
 use Rattle.bitvector.proofs.steps.list_bits.Tie as tie
 
 abbrev Inv-loop : tie.InvT-loop
-Inv-loop words n out₀ next₀ i₀ out next i =
-    (i ≤ n) × (next ≡ rank (has words) (64 * i)) × (length out ≡ length out₀) × (out ≡ sets out₀ 0 (rising (has words) (64 * i)))
+Inv-loop words n out₀ groups next₀ g₀ out next g = (g ≤ groups) × Front words out₀ (g * 8) next out
 
 abbrev μ-loop : tie.MeasureT-loop
-μ-loop words n out₀ next₀ i₀ out next i = n - i
+μ-loop words n out₀ groups next₀ g₀ out next g = groups - g
+
+-- what stands in the store after the groups, and after the words that are left
+groups-done : (c : tie.At-loop Inv-loop μ-loop) → c .loop .g ≡ c .before .before .before .args .n / 8
+    → Front (c .before .before .before .args .words .now) (c .before .before .before .args .out .now) (c .before .before .before .args .n / 8 * 8) (c .loop .next) (c .loop .out)
+groups-done c e = rw e at (c .loop .inv .1)
+
+all-done : (c : tie.After-slice-known3 Inv-loop μ-loop)
+    → let a = c .before .before .before .before .before .before .before .before .args in
+    Front (a .words .now) (a .out .now) (a .n) (c .before .before .list-words2 .result) (c .before .before .list-words2 .last .1 .1 .1 .0)
+all-done c =
+    let a = c .before .before .before .before .before .before .before .before .args in
+    front-on _ _ (a .n / 8 * 8) (a .n) _ _ (omega arith) (groups-done (c .before .before .before .before .before) (omega arith)) (c .before .before .list-words2 .ensures)
 
 pub list-bits-spec : {M : Type 1} → statement M
 list-bits-spec =
@@ -27,30 +36,33 @@ list-bits-spec =
     (tie.spec
     Inv-loop
     μ-loop
-    (λ c. (omega arith, refl, refl, refl))
-    (λ c. search needs)
+    (λ c. (omega arith, front-none _ _))
     (λ c. omega arith)
+    (λ c. omega arith)
+    (λ c κs. omega arith)
     (λ c. omega arith)
     (λ c κs.
-    let s = c .before .before .before .before .before .before in
-    let ws = s .args .words .now in
-    let i : ℕ = c .before .before .before .loop .i in
-    let all = sum-mono (λ p. one (has ws p)) {m = 64 * (i + 1)} {n = 64 * s .args .n} (omega arith) in
-    omega (arith, all, rank-next ws (λ j. c .before .shared-slice-known2 .given j .fits) i))
+    let a = c .before .before .before .before .before .before .before .args in
+    let l = c .before .before .before .before .loop in
+    let all = sum-mono (λ p. one (has (a .words .now) p)) {m = 64 * (l .g * 8 + 8)} {n = 64 * a .n} (omega arith) in
+    ((omega arith, omega arith, omega arith), omega (arith, all, l .inv .1 .told, front-length (l .inv .1))))
     (λ c. omega arith)
     (λ c. omega arith)
     (λ c.
-    let l = c .before .before .before .before .before .before .loop in
-    let ws = c .before .before .before .before .before .before .before .before .before .args .words .now in
-    let e = c .before .before .list-word .ensures in
-    let words = rank-next ws (λ j. c .before .before .before .before .shared-slice-known2 .given j .fits) (l .i) in (
-      omega arith,
-      omega (arith, e .told, words),
-      ap length (e .store) ∙ simp length-sets (l .inv .2),
-      list-turn ws (l .out) _ _ (l .i) (l .next) (l .inv .3) (l .inv .1) (e .store),
-    ))
-    (λ c. search needs)
-    (λ c.
-    let a = c .before .before .before .before .args in
-    let e : c .before .loop .i ≡ a .n = omega arith in
-    c .before .loop .inv .3 ∙ ap (λ (k : ℕ). sets (a .out .now) 0 (rising (has (a .words .now)) (64 * k))) e))
+    let l = c .before .before .before .loop in
+    let a = c .before .before .before .before .before .before .args in
+    let end : l .g * 8 + 8 ≡ (l .g + 1) * 8 = omega arith in
+    let next : Front (a .words .now) (a .out .now) (l .g * 8 + 8) (c .if1 .next) (c .if1 .out) =
+    ⊎-elim
+    (λ w. rw (w .5, w .6) (front-on _ _ (l .g * 8) (l .g * 8 + 8) _ _ (omega arith) (l .inv .1) (w .2 .ensures)))
+    (λ w.
+    let none = none-between (a .words .now) (l .g * 8) (l .g * 8 + 8) (omega arith) (c .before .any-bit .ensures) (w .0 .left) in
+    rw (w .1, w .2) (front-over _ _ (l .g * 8) (l .g * 8 + 8) _ _ (omega arith) (l .inv .1) none))
+    (c .if1 .came) in
+    (omega arith, rw end at next))
+    (λ c. omega arith)
+    (λ c κs.
+    let f = groups-done (c .before .before) (omega arith) in
+    ((omega arith, omega arith, omega arith), omega (arith, f .told, front-length f)))
+    (λ c. front-length (all-done c))
+    (λ c. all-done c))
