@@ -182,7 +182,7 @@ fn said(result: u64) -> Result<bool, Refusal> {
     Ok(answer(result, 0)? == 1)
 }
 
-/// The value of a call that only words unfit for a set could have refused.
+/// The value of a call on words that hold a set of the capacity, and with room for what it writes: it is not refused.
 pub(crate) fn fit(result: u64) -> u64 {
     answer(result, 0).expect("the words hold a set of the capacity")
 }
