@@ -10,12 +10,8 @@ const LIB: [Edit; 12] = [
     // The copy is a module and no crate root: its opening comment is no inner doc comment, and hashmap.rs is left out.
     (26, "\n//!", "\n//"),
     (1, "mod bitvector;\npub mod hashmap;\n", "use super::bitvector;\n"),
-    // The hash is the plain mixer over the seed word of `docs/REFERENCE.md`, in the place of wyhash.
-    (
-        1,
-        "wyhash::WyHash::with_seed(1 << (iter + iter))",
-        "crate::plain::PlainMixer::with_seed(crate::plain::seed_word(iter))",
-    ),
+    // The hash is the plain mixer in the place of wyhash. Its seed word is boomphf's own.
+    (1, "wyhash::WyHash", "crate::plain::PlainMixer"),
     // What the oracle shows: the hash functions, and each level's bit vector with its ranks.
     (5, "#[inline]\nfn ", "#[inline]\npub fn "),
     (1, "    bitvecs: Box<[(", "    pub bitvecs: Box<[("),

@@ -230,7 +230,8 @@ uint64_t shawltide_image_write(const uint64_t *head, size_t head_len, const uint
                                const uint64_t *samples, size_t samples_len, uint8_t *image, size_t image_len);
 
 /* Reads an image, a slice whose length is exactly that of its blocks: 0. Whichever one word of an image is changed, it is refused with 14. An image of
- * the form before kinds is read as one of SHAWLTIDE_KIND_PLAIN; written again, it has the form of today, which is one word longer.
+ * the form before kinds is read as one of SHAWLTIDE_KIND_PLAIN; written again, it has the form of today, which is one word longer. One of more than 32
+ * levels that version 0.2.0 or an earlier one made has to be built again, and nothing in it says so; none is known.
  * words, samples: IMAGE_WORDS(image_len) and IMAGE_SAMPLES(image_len) places or more, or as many as the index uses. They may hold anything; then they
  *      hold the index, and 0 past it.
  * out: SHAWLTIDE_OUT places or more. out[0] is the block that refusal 14 carries, else 0; out[1] to out[HEAD] are the head, or zeros where the reading

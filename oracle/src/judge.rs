@@ -14,6 +14,18 @@ pub fn build(gamma: f64, ids: &[u64]) -> Option<Mphf<u64>> {
     index
 }
 
+/// An index of levels that no build made, with the ranks that `compute_ranks` gives them.
+pub fn of_levels(levels: Vec<BitVector>) -> Mphf<u64> {
+    let mut index = Mphf::new(2.0, &[]);
+    index.bitvecs = Mphf::<u64>::compute_ranks(levels);
+    index
+}
+
+/// How many bits all levels have set, which is how many ids an index has.
+pub fn count(index: &Mphf<u64>) -> u64 {
+    index.bitvecs.iter().map(|(level, _)| level.len()).sum()
+}
+
 /// The words that hold a set.
 pub fn words(set: &BitVector) -> Vec<u64> {
     (0..set.num_words()).map(|word| set.get_word(word)).collect()

@@ -21,6 +21,7 @@ pub mod draw;
 pub mod gammas;
 pub mod ids;
 pub mod judge;
+pub mod late;
 pub mod list;
 pub mod lists;
 pub mod plain;

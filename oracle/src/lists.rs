@@ -44,8 +44,8 @@ fn draw(number: u64) -> Draw {
     Draw::new(0x0073_6861_776C_0000 + number)
 }
 
-/// The first levels and the last, and both sides of the line from which seed words are 0.
-const LEVELS: [u64; 5] = [0, 1, 31, 32, LEVEL_LIMIT - 1];
+/// The first levels and the last, and both sides of the line from which seed words come again.
+const LEVELS: [u64; 6] = [0, 1, 31, 32, 33, LEVEL_LIMIT - 1];
 
 const SIZES: [u64; 6] = [MIN_BITS, MIN_BITS + 1, SAMPLE_BITS - 1, SAMPLE_BITS + 1, 2000, MAX_BITS];
 
@@ -54,6 +54,18 @@ fn ids() -> Vec<u64> {
     let mut draw = draw(1);
     let edges = [0, 1, (1 << 32) - 1, (1 << 32) + 1, 1 << 63, u64::MAX];
     edges.into_iter().chain((0..300).map(|_| draw.next())).collect()
+}
+
+/// The first ids at every level and one level more, the others at one each.
+fn ids_at_levels() -> Vec<(u64, u64)> {
+    let levels = LEVEL_LIMIT + 1;
+    let ids = (0..).zip(ids());
+    ids.flat_map(|(i, id)| {
+        (0..levels)
+            .filter(move |level| i < 16 || i % levels == *level)
+            .map(move |level| (level, id))
+    })
+    .collect()
 }
 
 /// `state output`: the first five outputs of the public splitmix64.c from the state 1234567, as its users quote them. They come from outside, and
@@ -78,10 +90,8 @@ fn splitmix64() -> List {
 /// `level id hash`
 fn mixer() -> List {
     let mut list = List::default();
-    for id in ids() {
-        for level in LEVELS {
-            list.case(&[level, id, hash_with_seed(level, &id)]);
-        }
+    for (level, id) in ids_at_levels() {
+        list.case(&[level, id, hash_with_seed(level, &id)]);
     }
     list
 }
@@ -97,17 +107,11 @@ fn folds() -> List {
     list
 }
 
-/// `level size id position`: the first ids at every level and size, the others at one level each.
+/// `level size id position`: at one size after the other.
 fn positions() -> List {
     let mut list = List::default();
-    for (i, id) in ids().into_iter().enumerate() {
-        for (j, level) in LEVELS.into_iter().enumerate() {
-            if i < 16 || i % LEVELS.len() == j {
-                for size in SIZES {
-                    list.case(&[level, size, id, hashmod(level, &id, size)]);
-                }
-            }
-        }
+    for ((level, id), size) in ids_at_levels().into_iter().zip(SIZES.into_iter().cycle()) {
+        list.case(&[level, size, id, hashmod(level, &id, size)]);
     }
     list
 }

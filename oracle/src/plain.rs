@@ -1,15 +1,6 @@
-//! The plain mixer and the seed word of `docs/REFERENCE.md`, which the oracle's `hash_with_seed` has for its body.
+//! The plain mixer of `docs/REFERENCE.md`, by which the oracle's `hash_with_seed` hashes.
 
 use std::hash::Hasher;
-
-/// The seed word of a level: 2^(2 level), and 0 from level 32 on.
-pub fn seed_word(level: u64) -> u64 {
-    if level < 32 {
-        1 << (2 * level)
-    } else {
-        0
-    }
-}
 
 /// The SplitMix64 step.
 pub fn mix(id: u64, seed: u64) -> u64 {

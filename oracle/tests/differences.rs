@@ -1,7 +1,9 @@
 //! What the Rust does at the smallest input that shows each difference of `docs/DIFFERENCES.md`.
 
 use oracle::bitvector::BitVector;
-use oracle::boomphf::Mphf;
+use oracle::boomphf::{hash_with_seed, Mphf};
+use oracle::bounds::LEVEL_LIMIT;
+use oracle::plain::mix;
 use std::panic::catch_unwind;
 
 /// D1
@@ -75,9 +77,11 @@ fn eq_left_goes_past_the_capacities() {
     assert!(BitVector::new(1).eq_left(&BitVector::new(2), 2));
 }
 
-/// D11
+/// D11 is of builds with overflow checks: `trap.rs`. This is the build that is compared.
 #[test]
 fn a_release_build_shifts_modulo_64() {
-    let level: u64 = "32".parse().expect("a number");
-    assert_eq!(1_u64 << (level + level), 1);
+    for level in 0..=LEVEL_LIMIT {
+        assert_eq!(hash_with_seed(level, &0_u64), mix(0, 1 << (2 * level % 64)));
+    }
+    assert_eq!(hash_with_seed(32, &0_u64), hash_with_seed(0, &0_u64));
 }

@@ -42,6 +42,9 @@ impl Index {
     /// An image of the form before kinds ([`FORM`](crate::FORM) 1) is read as [`Kind::Plain`](crate::Kind::Plain): equal to what is built of the same ids
     /// and gamma today. Written again, it has the form of today.
     ///
+    /// An image of more than 32 [levels](Index::levels) that version 0.2.0 or an earlier one made has to be built again: ids from level 32 on are no longer
+    /// found where it has them, and nothing in it says so. No such image is known.
+    ///
     /// ```
     /// use shawltide::{Index, Refusal};
     /// let mut image = Index::build(&[10, 20, 30], 2.0)?.to_image()?;

@@ -8,7 +8,7 @@ use Rattle.laws.specs.Bits.{bitAt, has, packed, wordsFor}
 use Rattle.laws.specs.Tables.{all, equal}
 use Rattle.mixer.specs.Kinds.{kindOf}
 use Rattle.mixer.specs.declared.Kind.the-variants.{Plain}
-use Rattle.mixer.specs.Mixer.{mixed, hashed}
+use Rattle.mixer.specs.Mixer.{mixed, seedWord, hashed}
 use Rattle.mixer.specs.Position.{folded, scaled}
 use Rattle.ranks.specs.Ranks.{firstSamples, samplesOf, onesFrom}
 use Rattle.rule.specs.Rule.{remaining, runFrom}
@@ -71,8 +71,12 @@ rows : T (all
     ∷ eqb (scaled 0xFFFF_FFFF 255) 254
     -- the mixer of id 3 at level 0 equals that of id 0 at level 1
     ∷ eqb (hashed Plain 0 3) (hashed Plain 1 0)
-    -- id 1 at level 32 equals id 0 at level 0
-    ∷ eqb (hashed Plain 32 1) (hashed Plain 0 0)
+    -- level 31 has seed word 2^62, level 32 has 1 again, and level 33 has 4
+    ∷ eqb (seedWord 31) (2 ^ 62)
+    ∷ eqb (seedWord 32) 1
+    ∷ eqb (seedWord 33) 4
+    -- id 0 at level 32 equals id 0 at level 0
+    ∷ eqb (hashed Plain 32 0) (hashed Plain 0 0)
     -- bits 3, 64, 200 in one level have rows 0, 1, 2
     ∷ row 3 0
     ∷ row 64 1

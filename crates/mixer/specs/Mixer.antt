@@ -1,7 +1,5 @@
 -- The hash of an id at a level, by its kind. The plain kind is the plain mixer, which is the public SplitMix64 step, over the level's seed word. All in whole numbers, each word below 2 ^ 64.
 use Prim.Native.Nat.{ℕ, _+_, _*_, _/_, _%_, _^_}
-use mathlib.Core.Bool.{cond}
-use lib.Dec.{ltb}
 use lib.Bits.{bitXor}
 use Rattle.mixer.specs.declared.Kind.{Kind}
 use Rattle.mixer.specs.declared.Kind.the-variants.{Plain}
@@ -18,9 +16,9 @@ mixed id seed =
     let x = stirred 27 y * 0x94D0_49BB_1331_11EB % 2 ^ 64 in
     stirred 31 x
 
--- the seed word of level i: 2 ^ (2 i), and 0 from level 32 on, where that bit is pushed out
+-- the seed word of level i, whatever the kind: 2 ^ (2 i mod 64), so that level 32 has that of level 0 again
 abbrev pub seedWord : ℕ → ℕ
-seedWord i = cond (ltb i 32) (2 ^ (2 * i)) 0
+seedWord i = 2 ^ (2 * i % 64)
 
 -- the hash of an id at level i, by each kind
 abbrev pub hashed : Kind → ℕ → ℕ → ℕ

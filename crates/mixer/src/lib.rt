@@ -52,11 +52,11 @@ pub fn mix(id: u64, seed: u64) -> u64
     x ^ (x >> 31)
 }
 
-// The seed word of a level.
+// The seed word of a level. Each comes again after 32 levels.
 pub fn seed_word(level: u64) -> u64
     ensures { λ r. ⌜ r ≡ seedWord level ⌝ }
 {
-    if level < 32 { 1 << (2 * level) } else { 0 }
+    1 << (2 * (level % 32))
 }
 
 // The hash of an id at a level.

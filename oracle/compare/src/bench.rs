@@ -5,9 +5,9 @@ use crate::lent::{same_number, same_store, Compared, Difference, Lent};
 use crate::reading::bounds::LAST_REFUSAL;
 use crate::reading::image::ReadStores;
 use crate::reading::index::{Asked, Given, Run, Stores};
-use crate::reading::{image, index, set, NONE};
+use crate::reading::{image, index, refused, set, NONE};
 use oracle::draw::Draw;
-use std::collections::BTreeMap;
+use std::collections::{BTreeMap, BTreeSet};
 
 pub type Tally = BTreeMap<String, u64>;
 
@@ -16,6 +16,8 @@ pub struct Bench<'a> {
     pub draw: Draw,
     /// How many calls of each sort, with each sort of answer, were found equal.
     pub equal: Tally,
+    /// The levels that rows came from.
+    pub levels: BTreeSet<u64>,
     /// How many images were lent.
     images: usize,
 }
@@ -26,6 +28,7 @@ impl Bench<'_> {
             calls,
             draw: Draw::new(seed),
             equal: BTreeMap::new(),
+            levels: BTreeSet::new(),
             images: 0,
         }
     }
@@ -87,6 +90,9 @@ impl Bench<'_> {
         same_number("result of lookup", result, wanted)?;
         lent.holds("place", &after)?;
         self.counted("lookup", result);
+        if result < refused(LAST_REFUSAL) {
+            self.levels.insert(after[0]);
+        }
         Ok((result, after))
     }
 

@@ -31,10 +31,7 @@ pub fn case(bench: &mut Bench, gamma: f64, ids: &[u64]) -> Compared {
     }
     if let Some(index) = judged {
         let given = given(&run, bench);
-        let before = given.clone();
-        lookups(bench, &index, &given, ids)?;
-        listed(bench, &index, &given, ids)?;
-        same_given(&given, &before)?;
+        answered(bench, &index, &given, ids)?;
         let kind = kinds::any(bench);
         kinds::unanswered(bench, &kinds::of_kind(&given, kind), ids, 16)?;
     }
@@ -115,6 +112,14 @@ pub fn given(run: &Run, bench: &mut Bench) -> Given {
         words: [run.words(), past()].concat(),
         samples: [run.samples(), past()].concat(),
     }
+}
+
+/// Every lookup and the row list of an index, which stays as it was.
+pub fn answered(bench: &mut Bench, index: &Mphf<u64>, given: &Given, ids: &[u64]) -> Compared {
+    let before = given.clone();
+    lookups(bench, index, given, ids)?;
+    listed(bench, index, given, ids)?;
+    same_given(given, &before)
 }
 
 /// Each id, and as many others, some of them next to the ids.

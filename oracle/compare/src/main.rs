@@ -7,6 +7,7 @@ mod calls;
 mod damage;
 mod images;
 mod kinds;
+mod late;
 mod lent;
 mod plan;
 mod reading;

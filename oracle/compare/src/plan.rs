@@ -3,12 +3,14 @@
 use crate::bench::{Bench, Tally};
 use crate::calls::Calls;
 use crate::lent::{Compared, Difference};
-use crate::reading::bounds::{BLOCK_CONTENT, IDS, LEVELS, MAX_BITS, MAX_GAMMA, MAX_IDS, MIN_GAMMA};
+use crate::reading::bounds::{BLOCK_CONTENT, IDS, LEVELS, MAX_BITS, MAX_GAMMA, MAX_IDS, MAX_LEVELS, MIN_GAMMA};
 use crate::reading::index::Given;
-use crate::{broken, builds, damage, images, kinds, sets};
+use crate::{broken, builds, damage, images, kinds, late, sets};
 use oracle::bounds::LEAST_GAMMA;
 use oracle::draw::Draw;
 use oracle::ids::{colliding, consecutive, doubled, multiples, random, repeated};
+use oracle::late::FIRST_AGAIN;
+use std::collections::BTreeSet;
 
 /// How many cases of each sort.
 pub struct Plan {
@@ -22,6 +24,8 @@ pub struct Plan {
     pub doubled: u64,
     /// Of ids that collide at so many levels, picked from so many.
     pub colliding: &'static [(u64, u64)],
+    /// Of each level count from 33 on, with bits set by hand from level 32 on.
+    pub late: u64,
     pub sets: u64,
     /// Sets with about the largest capacity.
     pub largest_sets: u64,
@@ -39,6 +43,7 @@ pub const QUICK: Plan = Plan {
     largest: 3,
     doubled: 0,
     colliding: &[(1 << 18, 4)],
+    late: 2,
     sets: 5_000,
     largest_sets: 4,
     images: 100,
@@ -52,6 +57,7 @@ pub const LONG: Plan = Plan {
     largest: 36,
     doubled: 1,
     colliding: &[(1 << 18, 4), (1 << 20, 4), (1 << 22, 5), (1 << 22, 5)],
+    late: 40,
     sets: 200_000,
     largest_sets: 40,
     images: 3_000,
@@ -83,9 +89,10 @@ impl Plan {
         self.drawn(&mut bench)?;
         self.largest(&mut bench)?;
         self.crafted(&mut bench)?;
+        self.late(&mut bench)?;
         self.sets(&mut bench)?;
         self.images(&mut bench)?;
-        complete(&bench.equal)?;
+        complete(&bench.equal, &bench.levels)?;
         Ok(bench.equal)
     }
 
@@ -115,6 +122,15 @@ impl Plan {
             let ids = colliding(&mut bench.draw, *from, *levels);
             indexed(bench, 1.7, &ids)
         })
+    }
+
+    fn late(&self, bench: &mut Bench) -> Compared {
+        for _ in 0..self.late {
+            for level_count in FIRST_AGAIN + 1..=MAX_LEVELS as u64 {
+                named(&format!("{level_count} levels by hand"), late::case(bench, level_count))?;
+            }
+        }
+        Ok(())
     }
 
     fn sets(&self, bench: &mut Bench) -> Compared {
@@ -159,8 +175,8 @@ impl Plan {
 /// On both sides of the bound.
 const LARGEST_CAPACITIES: [u64; 4] = [MAX_BITS, MAX_BITS - 1, MAX_BITS + 1, u64::MAX];
 
-/// No sort of answer that there is, is left out.
-fn complete(equal: &Tally) -> Compared {
+/// No sort of answer that there is, is left out, and rows came from every level that there can be.
+fn complete(equal: &Tally, levels: &BTreeSet<u64>) -> Compared {
     let refusals = [
         ("build", &[1, 2, 3, 4, 5, 6, 11, 16][..]),
         ("lookup", &[7, 8, 11, 16]),
@@ -177,6 +193,9 @@ fn complete(equal: &Tally) -> Compared {
         if !equal.contains_key(&answer) {
             return Err(Difference(format!("no case was a {answer}")));
         }
+    }
+    if let Some(level) = (0..MAX_LEVELS as u64).find(|level| !levels.contains(level)) {
+        return Err(Difference(format!("no row came from level {level}")));
     }
     Ok(())
 }

@@ -2,6 +2,7 @@
 
 mod images;
 mod kinds;
+mod late;
 
 use crate::calls::{Act, BuildStores, Calls, Proved, Sets};
 use crate::lent::Lent;
@@ -16,6 +17,7 @@ const FEW: Plan = Plan {
     largest: 0,
     doubled: 0,
     colliding: &[],
+    late: 1,
     sets: 200,
     largest_sets: 0,
     images: 4,

@@ -6,6 +6,7 @@ use crate::boomphf::Mphf;
 use crate::bounds::{MAX_GAMMA, MIN_BITS, SAMPLE_BITS};
 use crate::draw::Draw;
 use crate::ids::random;
+use crate::judge::of_levels;
 use crate::list::List;
 
 /// `set bits in earlier levels, set bits with this level, how many words, words, samples`
@@ -53,10 +54,7 @@ fn indexes(draw: &mut Draw) -> Vec<Mphf<u64>> {
         indexes.push(Mphf::new(gamma, &random(draw, ids)));
     }
     for _ in 0..16 {
-        let levels = (0..3).map(|_| level(draw)).collect();
-        let mut index = Mphf::new(2.0, &[]);
-        index.bitvecs = Mphf::<u64>::compute_ranks(levels);
-        indexes.push(index);
+        indexes.push(of_levels((0..3).map(|_| level(draw)).collect()));
     }
     indexes
 }

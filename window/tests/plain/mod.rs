@@ -37,7 +37,7 @@ fn check(words: &[u64]) -> u64 {
 }
 
 /// The public SplitMix64 step.
-fn mixed(word: u64) -> u64 {
+pub fn mixed(word: u64) -> u64 {
     let z = word.wrapping_add(0x9E37_79B9_7F4A_7C15);
     let z = (z ^ (z >> 30)).wrapping_mul(0xBF58_476D_1CE4_E5B9);
     let z = (z ^ (z >> 27)).wrapping_mul(0x94D0_49BB_1331_11EB);

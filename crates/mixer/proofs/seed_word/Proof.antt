@@ -1,10 +1,10 @@
 -- `mixer::seed_word` meets its contract. Assumes nothing.
-use Prim.Native.Nat.{_*_}
+use Prim.Native.Nat.{ℕ, _%_, _^_}
+use mathlib.Core.Path.{ap, _∙_}
 use native.Mathlib.Nat.{one-mul, mod-eq-of-lt}
 use native.Mathlib.Omega.{arith}
 use lib.Pow.{pow-lt}
 use borrow.Author.Needs.{needs}
-use borrow.Author.Tests.{le-ltb, lt-ltb}
 use Rattle.mixer.proofs.seed_word.Statement.{statement}
 use Rattle.mixer.proofs.seed_word.Tie as tie
 
@@ -14,5 +14,4 @@ seed-word-spec =
     (tie.spec
     (λ c. search needs)
     (λ c. search needs)
-    (λ c. simp (lt-ltb _ _ (c .if1 .taken), one-mul, mod-eq-of-lt (pow-lt {i = 2 * c .before .args .level} {j = 64} (omega arith))))
-    (λ c. simp (le-ltb _ _ (c .if1 .left))))
+    (λ c. ap (λ (n : ℕ). n % 2 ^ 64) (one-mul _) ∙ mod-eq-of-lt (pow-lt {j = 64} (omega arith)) ∙ ap (λ (k : ℕ). 2 ^ k) (omega arith)))

@@ -9,7 +9,7 @@ fn modulo(number: u128) -> u64 {
 }
 
 fn seed_word(level: usize) -> u64 {
-    4_u64.checked_pow(level as u32).unwrap_or(0)
+    2_u64.pow(2 * level as u32 % 64)
 }
 
 /// Of the plain kind, as all that follows: of another kind there is no index.
@@ -223,7 +223,7 @@ impl Given {
         self.head[IDS]
     }
 
-    fn sizes(&self) -> &[u64] {
+    pub fn sizes(&self) -> &[u64] {
         &self.head[SIZES..SIZES + self.head[LEVELS] as usize]
     }
 

@@ -5,7 +5,7 @@ use crate::report::Report;
 use crate::streams::{self, Progress};
 use crate::words::{How, Source};
 use crate::Failure;
-use shawltide::{ImageError, Index};
+use shawltide::{ImageError, Index, Refusal};
 use std::ffi::OsStr;
 use std::fs::{self, File};
 use std::io::{self, ErrorKind, Read};
@@ -68,9 +68,20 @@ impl<'a> Input<'a> {
     }
 
     fn rows(&self, index: &Index, ids: &[u64]) -> Result<Vec<u64>, Failure> {
-        index.rows(ids).map_err(|refusal| Failure::of(self.name, refusal))
+        index.rows(ids).map_err(|refusal| {
+            let levels = index.levels();
+            if refusal != Refusal::WrongIds || levels <= LEVELS_AS_EVER {
+                return Failure::of(self.name, refusal);
+            }
+            let old = "or build the image again, if version 0.2.0 or an earlier one made it";
+            Failure::of(self.name, format!("{refusal}; {old}: it has {levels} levels"))
+        })
     }
 }
+
+/// Up to so many levels an image gives the rows that it ever gave. Of one with more that version 0.2.0 or an earlier one made, ids may no longer be found,
+/// and are refused though they are the right ones.
+const LEVELS_AS_EVER: usize = 32;
 
 /// The index and what there is to say about it.
 pub fn report(from: &Source, quiet: bool) -> Result<Report, Failure> {
