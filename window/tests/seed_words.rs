@@ -86,7 +86,7 @@ fn one_bit(level: u64, position: u64) -> Vec<u8> {
     plain::image(&head, &words, &vec![0; levels])
 }
 
-/// An id's bit at its place there gives it its row; the bits beside it give it none.
+/// An id's bit at its place there gives it its row; the bit after it gives it none.
 #[test]
 fn rows_of_late_levels() -> Ended {
     for (level, seed_word) in SEED_WORDS {
