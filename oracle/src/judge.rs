@@ -41,9 +41,14 @@ pub fn stores(index: &Mphf<u64>) -> [Vec<u64>; 3] {
     ]
 }
 
-/// Level and position: the first level that has the id's bit.
+/// Level and position of an id in an index.
 pub fn found(index: &Mphf<u64>, id: u64) -> Option<[u64; 2]> {
-    (0..).zip(index.bitvecs.iter()).find_map(|(level, (bits, _))| {
+    found_in(index.bitvecs.iter().map(|(level, _)| level), id)
+}
+
+/// The first level that has the id's bit, and the bit's position.
+pub fn found_in<'a>(levels: impl Iterator<Item = &'a BitVector>, id: u64) -> Option<[u64; 2]> {
+    (0..).zip(levels).find_map(|(level, bits)| {
         let position = hashmod(level, &id, bits.capacity());
         bits.contains(position).then_some([level, position])
     })

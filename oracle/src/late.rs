@@ -1,4 +1,4 @@
-//! Indexes set by hand, so that rows come from late levels: no ids are known of which a build makes so many.
+//! Indexes set by hand, so that rows come from late levels: no ids are known whose index has so many.
 
 use crate::bitvector::BitVector;
 use crate::boomphf::{hashmod, Mphf};
@@ -12,11 +12,11 @@ pub const FIRST_AGAIN: u64 = 32;
 pub fn index(draw: &mut Draw, sizes: &[u64], each: u64) -> (Mphf<u64>, Vec<u64>) {
     let mut levels: Vec<BitVector> = sizes.iter().map(|size| BitVector::new(*size)).collect();
     let mut ids = Vec::new();
-    for last in FIRST_AGAIN..sizes.len() as u64 {
+    for level in FIRST_AGAIN..sizes.len() as u64 {
         for _ in 0..each {
             let id = unseen(draw, &levels);
-            let bits = &mut levels[last as usize];
-            bits.insert(place(last, bits, id));
+            let bits = &mut levels[level as usize];
+            bits.insert(hashmod(level, &id, bits.capacity()));
             ids.push(id);
         }
     }
@@ -27,13 +27,8 @@ pub fn index(draw: &mut Draw, sizes: &[u64], each: u64) -> (Mphf<u64>, Vec<u64>)
 fn unseen(draw: &mut Draw, levels: &[BitVector]) -> u64 {
     loop {
         let id = draw.next();
-        let mut levels = (0..).zip(levels);
-        if levels.all(|(level, bits)| !bits.contains(place(level, bits, id))) {
+        if judge::found_in(levels.iter(), id).is_none() {
             return id;
         }
     }
-}
-
-fn place(level: u64, bits: &BitVector, id: u64) -> u64 {
-    hashmod(level, &id, bits.capacity())
 }

@@ -57,7 +57,7 @@ fn each_file_is_tried() -> Ended {
     Ok(())
 }
 
-/// Of some levels the seed word, by the scope's words.
+/// The seed words of some levels, 2^(2 level mod 64), worked out by hand.
 const SEED_WORDS: [(u64, u64); 8] = [
     (31, 1 << 62),
     (32, 1),

@@ -4,7 +4,7 @@ use crate::bench::{same_given, same_index, Bench};
 use crate::kinds;
 use crate::lent::{same_number, same_store, Compared};
 use crate::reading::bounds::{HEAD, OUT, PLAIN};
-use crate::reading::index::{run, Asked, Given, Run, Stores};
+use crate::reading::index::{head, run, Asked, Given, Run, Stores};
 use crate::reading::{words_for, NONE};
 use oracle::boomphf::Mphf;
 use oracle::judge;
@@ -111,6 +111,16 @@ pub fn given(run: &Run, bench: &mut Bench) -> Given {
         head: run.head(),
         words: [run.words(), past()].concat(),
         samples: [run.samples(), past()].concat(),
+    }
+}
+
+/// The Rust's index for lookups, in words and samples that it uses up.
+pub fn judged(index: &Mphf<u64>) -> Given {
+    let [sizes, words, samples] = judge::stores(index);
+    Given {
+        head: head(judge::count(index), &sizes),
+        words,
+        samples,
     }
 }
 

@@ -1,21 +1,20 @@
 //! Heads and stores that no build made. The Rust has no answer for most of them: the calls are compared with the reading, and with the Rust where it has.
 
 use crate::bench::{same_given, Bench};
-use crate::builds::{self, lookup};
+use crate::builds::{given, judged, lookup};
 use crate::kinds;
 use crate::lent::Compared;
 use crate::reading::bounds::*;
 use crate::reading::index::{run, Given};
 use crate::reading::words_for;
 use oracle::bitvector::BitVector;
-use oracle::boomphf::Mphf;
 use oracle::judge;
 
 /// Lookups and row lists of an index that was damaged, in one place or a few.
 pub fn case(bench: &mut Bench, gamma: f64, ids: &[u64]) -> Compared {
     let run = run(gamma, ids);
     for _ in 0..12 {
-        let mut given = builds::given(&run, bench);
+        let mut given = given(&run, bench);
         for _ in 0..1 + bench.draw.below(3) {
             damage(bench, &mut given);
         }
@@ -88,20 +87,12 @@ pub fn drawn(bench: &mut Bench) -> Compared {
     let levels = bench.one_of(&[1, 2, 31, 33, 34, MAX_LEVELS - 1, MAX_LEVELS]);
     let bits: Vec<BitVector> = (0..levels).map(|_| level(bench)).collect();
     let index = judge::of_levels(bits);
-    let given = given(&index);
+    let given = judged(&index);
     for _ in 0..200 {
         let id = bench.draw.next();
         lookup(bench, &index, &given, id)?;
     }
     Ok(())
-}
-
-/// The Rust's index for lookups.
-pub fn given(index: &Mphf<u64>) -> Given {
-    let [sizes, words, samples] = judge::stores(index);
-    let mut head = [vec![PLAIN, judge::count(index), sizes.len() as u64], sizes].concat();
-    head.resize(HEAD, 0);
-    Given { head, words, samples }
 }
 
 /// A level with few of its bits, so that lookups come through to those after it, or with half.

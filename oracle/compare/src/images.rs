@@ -4,7 +4,7 @@ use crate::bench::{same_given, Bench};
 use crate::lent::{same_number, same_store, Compared};
 use crate::reading::bounds::*;
 use crate::reading::image::{blocks, front, image, ReadStores, FORM, FORMS, OLDER};
-use crate::reading::index::{run, Given};
+use crate::reading::index::{head, run, Given};
 use crate::reading::{refused, samples_for, words_for};
 use oracle::plain;
 
@@ -43,13 +43,10 @@ pub fn with_fill(bench: &mut Bench, fill: usize) -> Given {
 
 /// Levels of these sizes with anything in their words and samples.
 fn of_sizes(bench: &mut Bench, sizes: &[u64]) -> Given {
-    let numbers = [PLAIN, bench.draw.below(MAX_IDS + 1), sizes.len() as u64];
-    let mut head = [&numbers, sizes].concat();
-    head.resize(HEAD, 0);
     let words = sizes.iter().map(|size| words_for(*size)).sum();
     let samples = sizes.iter().map(|size| samples_for(*size)).sum();
     Given {
-        head,
+        head: head(bench.draw.below(MAX_IDS + 1), sizes),
         words: bench.anything(words),
         samples: bench.anything(samples),
     }

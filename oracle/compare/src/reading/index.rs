@@ -194,9 +194,13 @@ impl Run {
     }
 
     pub fn head(&self) -> Vec<u64> {
-        let front = vec![PLAIN, self.count as u64, self.levels.len() as u64];
-        filled([front, self.sizes()].concat(), HEAD)
+        head(self.count as u64, &self.sizes())
     }
+}
+
+/// The head of an index of so many ids, with levels of these sizes.
+pub fn head(count: u64, sizes: &[u64]) -> Vec<u64> {
+    filled([&[PLAIN, count, sizes.len() as u64], sizes].concat(), HEAD)
 }
 
 /// How many words and samples the sizes of a head of any kind take; or nothing where 7 is due for its other numbers.
