@@ -3,7 +3,7 @@ use lists::line::number;
 use lists::real::real;
 use trial::measure::measure;
 
-#[derive(Drop)]
+#[derive(Clone, Copy)]
 pub enum Case {
     // state, output: of the public splitmix64.c
     Splitmix,

@@ -13,14 +13,14 @@ use refusal::Refusal;
 use words::{has_bit, u64s};
 
 // A row, with its level and its position there.
-#[derive(Drop)]
+#[derive(Clone, Copy)]
 pub struct Place {
     pub row: u64,
     pub level: u64,
     pub position: u64,
 }
 
-#[derive(Drop)]
+#[derive(Clone, Copy)]
 pub enum Found {
     Row(Place),
     None,

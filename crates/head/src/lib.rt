@@ -14,7 +14,7 @@ use words::u64s;
 pub mod numbers;
 
 // The number of its kind of hash, the id count, the level count and the level sizes, of which the unused ones are 0.
-#[derive(Drop)]
+#[derive(Clone, Copy)]
 pub struct Head {
     pub kind: u64,
     pub count: u64,
@@ -23,7 +23,7 @@ pub struct Head {
 }
 
 // What a call answers that makes a head: the outcome, and beside it the head, which is all 0 where the call is refused.
-#[derive(Drop)]
+#[derive(Clone, Copy)]
 pub struct Headed {
     pub outcome: Made,
     pub head: Head,
@@ -46,14 +46,14 @@ pub fn refused(why: Refusal) -> Headed
 }
 
 // How many words and samples the levels of a head use.
-#[derive(Drop)]
+#[derive(Clone, Copy)]
 pub struct Used {
     pub words: u64,
     pub samples: u64,
 }
 
 // What is found of the numbers of a head: they are unfit, or its levels use so much.
-#[derive(Drop)]
+#[derive(Clone, Copy)]
 pub enum Measured {
     Unfit,
     Uses(Used),

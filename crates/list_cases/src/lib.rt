@@ -6,7 +6,7 @@ use lists::line::{MOST, copy};
 use trial::stores::{first, first_mut};
 
 // How far a list is equal.
-#[derive(Drop)]
+#[derive(Clone, Copy)]
 pub enum Compared {
     Equal(u64),
     Differs(u64),
@@ -14,7 +14,7 @@ pub enum Compared {
 }
 
 // What one line of a list is.
-#[derive(Drop)]
+#[derive(Clone, Copy)]
 enum Step {
     Equal(Cursor),
     Differs,

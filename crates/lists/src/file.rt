@@ -3,7 +3,7 @@ use crate::line::MOST;
 use mixer::{mix, wrapping_mul};
 
 // Where reading stands: the file, the bytes of the buffer that are still to be read, and the check of all bytes before.
-#[derive(Drop)]
+#[derive(Clone, Copy)]
 pub struct Cursor {
     pub file: i32,
     pub at: usize,
@@ -11,13 +11,13 @@ pub struct Cursor {
     pub check: u64,
 }
 
-#[derive(Drop)]
+#[derive(Clone, Copy)]
 pub enum Next {
     Byte(u8, Cursor),
     End,
 }
 
-#[derive(Drop)]
+#[derive(Clone, Copy)]
 pub enum Line {
     // So many numbers, at the front of the store, and the place after them.
     Numbers(usize, Cursor),

@@ -7,14 +7,14 @@ ghost use Rattle.mixer.specs.Mixer.{mixed, seed_word, hashed};
 ghost use Rattle.mixer.specs.Position.{folded, scaled, position};
 
 // The known kinds of hash.
-#[derive(Drop)]
+#[derive(Clone, Copy)]
 pub enum Kind {
     // 0: the plain mixer.
     Plain,
 }
 
 // What the number of a kind stands for.
-#[derive(Drop)]
+#[derive(Clone, Copy)]
 pub enum KindOf {
     Known(Kind),
     Unknown,

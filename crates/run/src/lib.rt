@@ -12,7 +12,7 @@ use ranks::{part, sample_level};
 use words::{fill, u64s};
 
 // How far a build has come: the next level, how many ids come to it, the words and samples that the levels before it take, and the bits set in them.
-#[derive(Drop)]
+#[derive(Clone, Copy)]
 struct Progress {
     level: u64,
     remaining: usize,
@@ -22,14 +22,14 @@ struct Progress {
 }
 
 // A level of this size is placed, or there is no room for it.
-#[derive(Drop)]
+#[derive(Clone, Copy)]
 enum Turn {
     Placed(u64, Progress),
     NoRoom,
 }
 
 // How a run of levels ends: built with so many levels, no room for a level, or so many ids left after the last.
-#[derive(Drop)]
+#[derive(Clone, Copy)]
 pub enum Run {
     Built(u64),
     NoRoom(u64),

@@ -1,7 +1,7 @@
 // The bits, words and samples of a level.
 
 // What a level takes: nothing, where gamma or the number of ids is out of bounds.
-#[derive(Drop)]
+#[derive(Clone, Copy)]
 pub struct Takes {
     pub bits: u64,
     pub words: u64,
