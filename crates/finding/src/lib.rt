@@ -65,8 +65,8 @@ pub fn find(
 
 // The row of a set bit, from the words and samples of its level.
 fn row_at(count: u64, words: &[u64], samples: &[u64], level: u64, position: u64) -> Found
-    requires fact_1 { position / 64 < length words.now }
-    requires fact_2 { position / sample_bits < length samples.now }
+    requires word_there { position / 64 < length words.now }
+    requires sample_there { position / sample_bits < length samples.now }
     ensures { answer_of result ≡ row_answer count words.now samples.now level position }
 {
     let sample = samples[(position / SAMPLE_BITS) as usize];

@@ -18,8 +18,8 @@ pub fn part(store: &[u64], at: usize, n: usize) -> &[u64]
 
 // Writes a level's samples to the front of the store, from its words and the number of set bits before it; the set bits up to and with this level.
 pub fn sample_level(words: &[u64], before: u64, samples: &mut [u64]) -> u64
-    requires fact_1 { samples_for (length words.now) ≤ length samples.old }
-    requires fact_2 { before + 64 * length words.now < 2 ^ 64 }
+    requires samples_fit { samples_for (length words.now) ≤ length samples.old }
+    requires ones_fit { before + 64 * length words.now < 2 ^ 64 }
     ensures { Sampled before words.now samples.old result samples.new }
 {
     let mut ones = before;

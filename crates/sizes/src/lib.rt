@@ -1,4 +1,6 @@
 // The size of a level: gamma's two tests, how many bits a level has for the ids that remain, and how many samples its words take.
+#![tactic(auto)]
+
 ghost use Rattle.std.specs.Prelude.{◌≡◌, ◌≤◌};
 ghost use Rattle.bounds.specs.Bounds.{max_ids, max_bits};
 ghost use Rattle.laws.specs.Bits.{words_for};
@@ -31,8 +33,8 @@ pub fn above_max(gamma: f64) -> bool
 
 // How many bits a level has for so many remaining ids: the whole part of their product with gamma, or 255 where that is less.
 pub fn size(gamma: f64, ids: u64) -> u64
-    requires fact_1 { Allowed gamma }
-    requires fact_2 { ids ≤ max_ids }
+    requires gamma_allowed { Allowed gamma }
+    requires ids_bounded { ids ≤ max_ids }
     ensures { result ≡ size_for gamma ids }
 {
     if ids == 0 {

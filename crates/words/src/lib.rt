@@ -1,4 +1,6 @@
 // One bit, or some words, of words that are there: bit b is bit b mod 64 of word b / 64. What a step asks, its callers have proved.
+#![tactic(auto)]
+
 ghost use Rattle.std.specs.Prelude.{◌≡◌, ◌/◌, ◌≤◌, ◌<◌, ◌++◌, length, drop, replicate};
 ghost use Rattle.bounds.specs.Bounds.{max_bits};
 ghost use Rattle.laws.specs.Bits.{words_for, has, with_bit, without_bit};
