@@ -78,8 +78,8 @@ fn list_word(word: u64, base: u64, out: &mut [u64], place: usize) -> usize
 
 // The bits set in the words from `start` on and before `end`, rising, to `out` from `place` on; the place after them.
 fn list_words(words: &[u64], start: usize, end: usize, out: &mut [u64], place: usize) -> usize
-    requires start_le_end { (start ≤ end) × (end ≤ length words.now) × (end ≤ words_for max_bits) }
-    requires end_in_bounds { place + rank (has words.now) (64 * end) ≤ length out.old + rank (has words.now) (64 * start) }
+    requires words_there { (start ≤ end) × (end ≤ length words.now) × (end ≤ words_for max_bits) }
+    requires out_fits { place + rank (has words.now) (64 * end) ≤ length out.old + rank (has words.now) (64 * start) }
     ensures { Listed words.now start end place out.old result out.new }
 {
     let mut next = place;

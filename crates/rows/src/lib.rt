@@ -64,8 +64,8 @@ fn list_rows(
     marks: &mut [u64],
 ) -> Made
     requires fit { Fit count levels sizes.now (length words.now) (length samples.now) }
-    requires count_in_bounds_1 { count ≤ length rows.old }
-    requires count_in_bounds_2 { words_for count ≤ length marks.old }
+    requires rows_fit { count ≤ length rows.old }
+    requires marks_fit { words_for count ≤ length marks.old }
     ensures { made result (row_stores rows.new marks.new)
         ≡ rows_by (row_by kind count levels sizes.now words.now samples.now)
         count ids.now rows.old marks.old }
@@ -96,8 +96,8 @@ fn are_apart(
     marks: &mut [u64],
 ) -> bool
     requires fit { Fit count levels sizes.now (length words.now) (length samples.now) }
-    requires count_in_bounds_1 { words_for count ≤ length marks.old }
-    requires count_in_bounds_2 { Unmarked count marks.old }
+    requires marks_fit { words_for count ≤ length marks.old }
+    requires unmarked { Unmarked count marks.old }
     ensures { Checked (row_by kind count levels sizes.now words.now samples.now)
         ids.now count marks.old result marks.new }
 {
@@ -121,7 +121,7 @@ fn mark_row(
     marks: &mut [u64],
 ) -> bool
     requires fit { Fit count levels sizes.now (length words.now) (length samples.now) }
-    requires count_in_bounds { words_for count ≤ length marks.old }
+    requires marks_fit { words_for count ≤ length marks.old }
     ensures { Marked (row_by kind count levels sizes.now words.now samples.now id)
         marks.old result marks.new }
 {
@@ -143,7 +143,7 @@ fn write_rows(
     rows: &mut [u64],
 )
     requires fit { Fit count levels sizes.now (length words.now) (length samples.now) }
-    requires count_in_bounds { count ≤ length rows.old }
+    requires rows_fit { count ≤ length rows.old }
     ensures { rows.new
         ≡ with_ids (row_by kind count levels sizes.now words.now samples.now) ids.now rows.old }
 {
@@ -164,7 +164,7 @@ fn write_row(
     rows: &mut [u64],
 )
     requires fit { Fit count levels sizes.now (length words.now) (length samples.now) }
-    requires count_in_bounds { count ≤ length rows.old }
+    requires rows_fit { count ≤ length rows.old }
     ensures { rows.new
         ≡ with_id (row_by kind count levels sizes.now words.now samples.now id) id rows.old }
 {
