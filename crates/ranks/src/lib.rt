@@ -1,4 +1,6 @@
 // Ranks: a level's samples, the ones below a position from its sample on, and a level's part of a store.
+#![tactic(auto)]
+
 ghost use Rattle.std.specs.Prelude.{◌≡◌, ◌+◌, ◌*◌, ◌^◌, ◌≤◌, ◌<◌, length, take, drop};
 ghost use Rattle.sizes.specs.Sizes.{samples_for};
 ghost use Rattle.ranks.specs.Ranks.{ones_from};
