@@ -1,6 +1,5 @@
 -- An outcome that is not refused has a known kind. Assumes nothing.
 use mathlib.Core.Path.{◌≡◌, refl}
-use Prim.Native.Nat.{ℕ}
 use Rattle.refusal.specs.Answers.{Outcome, refused}
 use Rattle.refusal.specs.declared.Refusal.TheVariants.{UnknownKind}
 use Rattle.refusal.proofs.Apart.{not_none}

@@ -1,4 +1,6 @@
 // The head of an index, answers with a head, and the check that it fits its bounds and its stores.
+#![tactic(auto)]
+
 ghost use Rattle.std.specs.Prelude.{◌≡◌, ◌≤◌};
 ghost use Rattle.refusal.specs.declared.Made.TheVariants.{Refused};
 ghost use Rattle.bounds.specs.Bounds.{head_sizes};
