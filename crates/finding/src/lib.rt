@@ -1,4 +1,6 @@
 // The walk from an id to its row, through the levels of a head that is known to fit (boomphf's `try_hash` and `get_rank`).
+#![tactic(auto)]
+
 ghost use Rattle.std.specs.Prelude.{◌≡◌, ◌/◌, ◌<◌, length};
 ghost use Rattle.bounds.specs.Bounds.{sample_bits};
 ghost use Rattle.mixer.specs.Position.{position};
