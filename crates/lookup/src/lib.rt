@@ -1,4 +1,6 @@
 // Lookup: from an id to its row, in any head and stores.
+#![tactic(auto)]
+
 ghost use Rattle.std.specs.Prelude.{◌≡◌};
 ghost use Rattle.finding.specs.Find.{answer_of};
 ghost use Rattle.lookup.specs.Lookup.{lookup_call};

@@ -1,0 +1,16 @@
+-- `rows::write_rows` meets its contract: the ids that are left, written from here on, give the whole. Assumes nothing.
+use mathlib.Core.Path.{◌≡◌, refl}
+use Prim.Native.Nat.{◌-◌, ◌≤◌}
+use native.Mathlib.Omega.{arith}
+use lib.ListN.{length, drop}
+use Rattle.rows.specs.Passes.{row_by, with_ids}
+use Rattle.rows.proofs.Lists.{writes_more, writes_done}
+use Rattle.rows.proofs.write_rows.Goals as goal
+
+pub loop-i-preserved : goal.loop-i-preserved
+loop-i-preserved c =
+    let l = c.loop-i in
+    (omega arith, l.invariant.1, omega arith, writes_more _ _ _ _ l.i l.invariant.3 _ (omega arith) c.write_row.ensures)
+
+pub returns : goal.returns
+returns c = writes_done _ _ _ _ c.loop-i.i c.loop-i.invariant.3 (omega arith)
