@@ -8,16 +8,10 @@ use lib.Dec.{leb}
 use Rattle.laws.specs.Counting.{rank}
 use Rattle.laws.specs.Bits.{has}
 use Rattle.laws.proofs.Sums.{rank-le}
-use Rattle.bitvector.proofs.steps.has_at_most.Statement.{statement}
-use Rattle.bitvector.proofs.steps.has_at_most.Tie as tie
+use Rattle.bitvector.proofs.steps.has_at_most.Goals as goal
 
-pub has_at_most_spec : {M : Type 1} → statement M
-has_at_most_spec =
-    tie.close
-    (tie.spec
-    (λ c.
-    let a = c.before.before.args in
+pub returns-then-n-most : goal.returns-then-n-most
+returns-then-n-most c =
+    let a = c.args in
     let few : rank (has a.words.now) (64 * a.n) ≤ a.most = omega (arith, rank-le (has a.words.now) (64 * a.n)) in
-    sym (le-leb _ _ few))
-    (λ c κs. search rules)
-    (λ c. ap (λ (k : ℕ). leb k c.before.before.before.args.most) c.count-sparse.ensures))
+    sym (le-leb _ _ few)
