@@ -10,13 +10,7 @@ use head::numbers::NUMBERS;
 use refusal::Refusal;
 
 // Writes the image of an index to the front of the store: how many blocks it has, or the refusal.
-#[unsafe(no_mangle)]
-pub extern "C" fn shawltide_image_write(
-    head: &[u64],
-    words: &[u64],
-    samples: &[u64],
-    image: &mut [u8],
-) -> u64
+pub fn shawltide_image_write(head: &[u64], words: &[u64], samples: &[u64], image: &mut [u8]) -> u64
     ensures { seen result image.new
         ≡ flat_write head.now words.now samples.now image.old }
 {
@@ -28,8 +22,7 @@ pub extern "C" fn shawltide_image_write(
 }
 
 // Reads an image into the stores: 0, or the refusal. `out` gets the block that refusal 14 carries, else 0, and the head.
-#[unsafe(no_mangle)]
-pub extern "C" fn shawltide_image_read(
+pub fn shawltide_image_read(
     image: &[u8],
     words: &mut [u64],
     samples: &mut [u64],

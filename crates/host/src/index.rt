@@ -22,8 +22,7 @@ pub(crate) const OUT: usize = 1 + NUMBERS;
 const PLACE: usize = 2;
 
 // Builds an index of the ids by a kind of hash: 0, or the refusal. `out` gets the value that refusal 5 or 6 carries, else 0, and the head.
-#[unsafe(no_mangle)]
-pub extern "C" fn shawltide_build(
+pub fn shawltide_build(
     kind: u64,
     gamma: f64,
     ids: &[u64],
@@ -72,8 +71,7 @@ pub(crate) fn write_out(
 }
 
 // The id's row, none, or the refusal. `place` gets the level and the position of a row.
-#[unsafe(no_mangle)]
-pub extern "C" fn shawltide_lookup(
+pub fn shawltide_lookup(
     head: &[u64],
     words: &[u64],
     samples: &[u64],
@@ -102,8 +100,7 @@ pub extern "C" fn shawltide_lookup(
 }
 
 // Writes at each row the id that lookup sends there: 0, or the refusal.
-#[unsafe(no_mangle)]
-pub extern "C" fn shawltide_rows(
+pub fn shawltide_rows(
     head: &[u64],
     words: &[u64],
     samples: &[u64],

@@ -1,4 +1,4 @@
-// The calls for hosts in Rust and C. Every result is one number: a value, 2^64 - 1 for none, 2^64 - 1 - r for refusal r. A slice is a pointer and a length.
+// The calls for hosts, which `host_c` exports. Every result is one number: a value, 2^64 - 1 for none, 2^64 - 1 - r for refusal r.
 mod answer;
 mod images;
 mod index;

@@ -7,8 +7,7 @@ ghost use Rattle.host.specs.Flat.{seen, seen_of};
 use crate::answer;
 
 // The empty set.
-#[unsafe(no_mangle)]
-pub extern "C" fn shawltide_set_empty(capacity: u64, words: &mut [u64]) -> u64
+pub fn shawltide_set_empty(capacity: u64, words: &mut [u64]) -> u64
     ensures { seen result words.new ≡ seen_of (new_call capacity words.old) }
 {
     let answer = bitvector::new(capacity, words);
@@ -16,8 +15,7 @@ pub extern "C" fn shawltide_set_empty(capacity: u64, words: &mut [u64]) -> u64
 }
 
 // The set of every number below the capacity.
-#[unsafe(no_mangle)]
-pub extern "C" fn shawltide_set_ones(capacity: u64, words: &mut [u64]) -> u64
+pub fn shawltide_set_ones(capacity: u64, words: &mut [u64]) -> u64
     ensures { seen result words.new ≡ seen_of (ones_call capacity words.old) }
 {
     let answer = bitvector::ones(capacity, words);
@@ -25,8 +23,7 @@ pub extern "C" fn shawltide_set_ones(capacity: u64, words: &mut [u64]) -> u64
 }
 
 // 1 if the set has no number, else 0.
-#[unsafe(no_mangle)]
-pub extern "C" fn shawltide_set_is_empty(capacity: u64, words: &[u64]) -> u64
+pub fn shawltide_set_is_empty(capacity: u64, words: &[u64]) -> u64
     ensures { seen result untouched ≡ seen_of (is_empty_call capacity words.now) }
 {
     let answer = bitvector::is_empty(capacity, words);
@@ -34,8 +31,7 @@ pub extern "C" fn shawltide_set_is_empty(capacity: u64, words: &[u64]) -> u64
 }
 
 // How many numbers the set has.
-#[unsafe(no_mangle)]
-pub extern "C" fn shawltide_set_len(capacity: u64, words: &[u64]) -> u64
+pub fn shawltide_set_len(capacity: u64, words: &[u64]) -> u64
     ensures { seen result untouched ≡ seen_of (len_call capacity words.now) }
 {
     let answer = bitvector::len(capacity, words);
@@ -43,8 +39,7 @@ pub extern "C" fn shawltide_set_len(capacity: u64, words: &[u64]) -> u64
 }
 
 // 1 if the bit is in the set, else 0.
-#[unsafe(no_mangle)]
-pub extern "C" fn shawltide_set_contains(capacity: u64, words: &[u64], bit: u64) -> u64
+pub fn shawltide_set_contains(capacity: u64, words: &[u64], bit: u64) -> u64
     ensures { seen result untouched ≡ seen_of (contains_call capacity words.now bit) }
 {
     let answer = bitvector::contains(capacity, words, bit);
@@ -52,8 +47,7 @@ pub extern "C" fn shawltide_set_contains(capacity: u64, words: &[u64], bit: u64)
 }
 
 // 1 if the bit is new, else 0.
-#[unsafe(no_mangle)]
-pub extern "C" fn shawltide_set_insert(capacity: u64, words: &mut [u64], bit: u64) -> u64
+pub fn shawltide_set_insert(capacity: u64, words: &mut [u64], bit: u64) -> u64
     ensures { seen result words.new ≡ seen_of (insert_call capacity words.old bit) }
 {
     let answer = bitvector::insert(capacity, words, bit);
@@ -61,8 +55,7 @@ pub extern "C" fn shawltide_set_insert(capacity: u64, words: &mut [u64], bit: u6
 }
 
 // 1 if the bit was there, else 0.
-#[unsafe(no_mangle)]
-pub extern "C" fn shawltide_set_remove(capacity: u64, words: &mut [u64], bit: u64) -> u64
+pub fn shawltide_set_remove(capacity: u64, words: &mut [u64], bit: u64) -> u64
     ensures { seen result words.new ≡ seen_of (remove_call capacity words.old bit) }
 {
     let answer = bitvector::remove(capacity, words, bit);
@@ -70,8 +63,7 @@ pub extern "C" fn shawltide_set_remove(capacity: u64, words: &mut [u64], bit: u6
 }
 
 // 1 if the set has changed, else 0.
-#[unsafe(no_mangle)]
-pub extern "C" fn shawltide_set_insert_all(
+pub fn shawltide_set_insert_all(
     capacity: u64,
     words: &mut [u64],
     other_capacity: u64,
@@ -84,8 +76,7 @@ pub extern "C" fn shawltide_set_insert_all(
 }
 
 // 1 if the two sets have the same numbers below the bit, else 0.
-#[unsafe(no_mangle)]
-pub extern "C" fn shawltide_set_eq_left(
+pub fn shawltide_set_eq_left(
     capacity: u64,
     words: &[u64],
     other_capacity: u64,
@@ -99,8 +90,7 @@ pub extern "C" fn shawltide_set_eq_left(
 }
 
 // How many members are written to the front of `out`.
-#[unsafe(no_mangle)]
-pub extern "C" fn shawltide_set_members(capacity: u64, words: &[u64], out: &mut [u64]) -> u64
+pub fn shawltide_set_members(capacity: u64, words: &[u64], out: &mut [u64]) -> u64
     ensures { seen result out.new ≡ seen_of (members_call capacity words.now out.old) }
 {
     let answer = bitvector::members(capacity, words, out);
