@@ -1,4 +1,6 @@
 // An index on disk: an image of it in blocks of bytes, written and read.
+#![tactic(auto)]
+
 mod reading;
 mod writing;
 
