@@ -1,4 +1,6 @@
 // Build (boomphf's `Mphf::new` and `compute_ranks`): from ids to an index, one level after another.
+#![tactic(auto)]
+
 ghost use Rattle.std.specs.Prelude.{◌≡◌, ℕ, ◌≤◌, List, length};
 ghost use Rattle.laws.specs.Stores.{fronted};
 ghost use Rattle.run.specs.Stores.{stores};
