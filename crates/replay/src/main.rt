@@ -44,12 +44,17 @@ fn replay(rt: &(impl Files + Print + Eprint + Alloc), name: &str, case: Case) ->
     report(rt, name.as_bytes(), outcome)
 }
 
-// Writes a line to standard error: the name of the list, and why the system did not open it, without the number that an error shows too.
+// Writes a line to standard error: the name of the list, and why the system did not open it.
 fn fail(rt: &(impl Eprint + Alloc), name: &str, error: io::Error) -> io::Result<()> {
     let shown = format!(in rt.alloc(); "{error}")?;
-    let words = match shown.split_once(" (os error ") {
+    let why = words(shown.as_str());
+    eprintln!(rt; "{name}: {why}")
+}
+
+// The system's words for an error, which shows its number after them: `No such file or directory (os error 2)`.
+fn words(shown: &str) -> &str {
+    match shown.split_once(" (os error ") {
         Some((words, _)) => words,
-        None => shown.as_str(),
-    };
-    eprintln!(rt; "{name}: {words}")
+        None => shown,
+    }
 }
