@@ -1,4 +1,6 @@
 // Cases of whole builds, and of lookups in what was built: what the numbers of a line are, and whether the calls for hosts answer as it says.
+#![tactic(auto)]
+
 ghost use Rattle.std.specs.Prelude.{◌≤◌, ◌*◌, ◌+◌};
 ghost use Rattle.lists.specs.Lines.{most};
 

@@ -1,4 +1,6 @@
 // Each kind of case: what the numbers of a line are, and whether the proved functions answer as it says.
+#![tactic(auto)]
+
 use lists::line::number;
 use lists::real::real;
 use trial::measure::measure;

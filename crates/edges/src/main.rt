@@ -1,21 +1,25 @@
 // The lines of 01's "Both sides of each line" that are run, and those that images draw: each is written with what the proved functions answer, and the file stdout has what the scope says.
+#![tactic(auto)]
+
 mod lists;
 
-fn main() {
-    level_edges::gammas();
-    level_edges::sizes();
-    set_edges::run();
-    level_edges::sampled();
-    build_edges::accepted();
-    build_edges::refused();
-    lookup_edges::lookups();
-    damage_edges::lookups();
-    lists::lists();
-    image_edges::written();
-    write_edges::writes();
-    read_edges::lengths();
-    read_edges::blocks();
-    read_edges::contents();
-    read_edges::stores();
-    read_edges::level_counts();
+use std::io;
+
+fn main(rt: HostRuntime) -> io::Result<()> {
+    level_edges::gammas(&rt)?;
+    level_edges::sizes(&rt)?;
+    set_edges::run(&rt)?;
+    level_edges::sampled(&rt)?;
+    build_edges::accepted(&rt)?;
+    build_edges::refused(&rt)?;
+    lookup_edges::lookups(&rt)?;
+    damage_edges::lookups(&rt)?;
+    lists::lists(&rt)?;
+    image_edges::written(&rt)?;
+    write_edges::writes(&rt)?;
+    read_edges::lengths(&rt)?;
+    read_edges::blocks(&rt)?;
+    read_edges::contents(&rt)?;
+    read_edges::stores(&rt)?;
+    read_edges::level_counts(&rt)
 }

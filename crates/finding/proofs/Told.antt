@@ -1,13 +1,11 @@
 -- The row of an answer: it is below the count, and the case of the enum tells it. Assumes nothing.
 use mathlib.Core.Path.{◌≡◌, refl, sym, ap, ◌∙◌}
-use mathlib.Core.Logic.{◌⊎◌, inl, inr}
 use mathlib.Core.Bool.{Bool, true, false, cond, ◌&&◌}
 use mathlib.Core.List.{List}
 use mathlib.Core.Option.{Option, none, some}
 use Prim.Native.Nat.{ℕ, ◌+◌, ◌/◌, ◌<◌}
 use native.Mathlib.Omega.{arith}
 use borrow.Author.Tests.{ltb-true}
-use denote.Enum.Declared.{tag_of}
 use lib.Dec.{leb, ltb}
 use lib.ListN.{get_or}
 use Rattle.bounds.specs.Bounds.{max_ids, sample_bits}
@@ -21,7 +19,6 @@ use Rattle.finding.specs.Find.{found, refused_for, answer_of, row_in, row_answer
 use Rattle.finding.specs.declared.Place.{Place}
 use Rattle.finding.specs.declared.Found.{Found}
 use Rattle.finding.specs.declared.Found.TheVariants as F
-use Rattle.finding.specs.contracts.Found.{the_type}
 
 -- ---- an answered row is below the count
 
@@ -50,11 +47,10 @@ found_below pos count span ws ss x levels r e = go (first pos span (λ i. has (l
 pub told : (f : Found) (p : Place) → f ≡ F.Row p → row_in (answer_of f) ≡ some p.row
 told f p q = ap (λ (g : Found). row_in (answer_of g)) q
 
-pub not_told : (f : Found) → (tag_of the_type f ≡ 1) ⊎ (tag_of the_type f ≡ 2) → row_in (answer_of f) ≡ none
-not_told (F.Row p) (inl q) = absurd (omega arith)
-not_told (F.Row p) (inr q) = absurd (omega arith)
-not_told F.None q = refl
-not_told (F.Refused r) q = refl
+pub not_told : (f : Found) → ((p : Place) → f ≡ F.Row p → ⊥) → row_in (answer_of f) ≡ none
+not_told (F.Row p) n = absurd (n p refl)
+not_told F.None n = refl
+not_told (F.Refused r) n = refl
 
 pub told_below : (pos : (level size id : ℕ) → ℕ) (count : ℕ) (span : ℕ → ℕ) (ws ss : List ℕ) (x levels : ℕ) (f : Found) (p : Place) → answer_of f ≡ find_in pos count span ws ss x levels
     → f ≡ F.Row p → p.row < count

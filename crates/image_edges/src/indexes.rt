@@ -2,21 +2,22 @@
 use crate::lines::show;
 use crate::places::first_bytes;
 use refusal::Counted;
+use std::io;
 use trial::print::{counted, number, text};
 
-pub fn written() {
-    index(&[], &mut [7; 1536]);
-    index(&[9], &mut [7; 1536]);
-    index(&[9, 10, 11], &mut [7; 1536]);
+pub fn written(rt: &impl Print) -> io::Result<()> {
+    index(rt, &[], &mut [7; 1536])?;
+    index(rt, &[9], &mut [7; 1536])?;
+    index(rt, &[9, 10, 11], &mut [7; 1536])
 }
 
 // The lines of an index: how many blocks it takes, each word of them, and what they are read as.
-fn index(ids: &[u64], image: &mut [u8]) {
+fn index(rt: &impl Print, ids: &[u64], image: &mut [u8]) -> io::Result<()> {
     let answer = write_index(ids, image);
-    text(b"image of ");
-    number(ids.len() as u64);
-    counted(b" ids, blocks", answer);
-    show(first_bytes(image, 1024));
+    text(rt, b"image of ")?;
+    number(rt, ids.len() as u64)?;
+    counted(rt, b" ids, blocks", answer)?;
+    show(rt, first_bytes(image, 1024))
 }
 
 // Writes the image of the index of these ids, of which there are three at most.

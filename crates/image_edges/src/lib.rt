@@ -1,4 +1,6 @@
 // Images of the indexes of no, one and three ids, written and read back; and what the other lines about images share.
+#![tactic(auto)]
+
 mod indexes;
 mod lines;
 pub mod places;

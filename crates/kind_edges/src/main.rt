@@ -1,15 +1,19 @@
 // Kinds of hash that are not known, in every call, and older images, which have no kind: each line is written with what the proved functions answer, and the file stdout has what the scope says.
+#![tactic(auto)]
+
 mod calls;
 mod lists;
 mod reads;
 
-fn main() {
-    calls::builds();
-    calls::lookups();
-    lists::lists();
-    calls::writes();
-    reads::kinds();
-    reads::beside();
-    older_edges::indexes();
-    older_edges::changes();
+use std::io;
+
+fn main(rt: HostRuntime) -> io::Result<()> {
+    calls::builds(&rt)?;
+    calls::lookups(&rt)?;
+    lists::lists(&rt)?;
+    calls::writes(&rt)?;
+    reads::kinds(&rt)?;
+    reads::beside(&rt)?;
+    older_edges::indexes(&rt)?;
+    older_edges::changes(&rt)
 }

@@ -1,5 +1,7 @@
 // One level of a build (boomphf's `Context`): the ids that come to it are marked, then those whose position is shared are filtered out and go
 // on. It works in lent words that start at the level and in the first words of collide. An id's bit is its position among the `size` bits of the level.
+#![tactic(auto)]
+
 ghost use Rattle.std.specs.Prelude.{◌≡◌, ◌≤◌, length};
 ghost use Rattle.laws.specs.Bits.{words_for};
 ghost use Rattle.mixer.specs.Position.{position};

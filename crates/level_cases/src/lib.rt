@@ -1,4 +1,6 @@
 // Cases of one level and of its ranks: what the numbers of a line are, and whether a call answers as it says. `store` is a copy of the line, which a call may write to.
+#![tactic(auto)]
+
 mod placing;
 mod ranking;
 

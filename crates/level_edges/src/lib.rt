@@ -1,4 +1,6 @@
 // Levels: gammas on both sides of their two bounds, sizes, and rows on both sides of a sample.
+#![tactic(auto)]
+
 mod ranking;
 mod sizing;
 

@@ -2,6 +2,7 @@
 use bounds::HEAD_SIZES;
 use finding::Found;
 use head::Head;
+use std::io;
 use trial::print::{count, number, numbers, text};
 
 // Ids by their positions in a level 0 of 640 bits.
@@ -12,16 +13,16 @@ const AT_512: u64 = 25;
 const AT_513: u64 = 2736;
 
 // A level of 640 bits, of which the first 576 are set.
-pub fn sampled() {
+pub fn sampled(rt: &impl Print) -> io::Result<()> {
     let mut words: [u64; 10] = [u64::MAX; 10];
     words[9] = 0;
     let mut samples: [u64; 2] = [7; 2];
     ranks::sample_level(&words, 0, &mut samples);
-    numbers(b"640 bits, words 0 to 8 all ones, samples", &samples);
-    rows(&words, &samples);
+    numbers(rt, b"640 bits, words 0 to 8 all ones, samples", &samples)?;
+    rows(rt, &words, &samples)
 }
 
-fn rows(words: &[u64], samples: &[u64]) {
+fn rows(rt: &impl Print, words: &[u64], samples: &[u64]) -> io::Result<()> {
     let mut sizes = [0; HEAD_SIZES];
     sizes[0] = 640;
     let head = Head {
@@ -30,18 +31,18 @@ fn rows(words: &[u64], samples: &[u64]) {
         levels: 1,
         sizes,
     };
-    row(lookup::lookup(head, words, samples, AT_511));
-    row(lookup::lookup(head, words, samples, AT_512));
-    row(lookup::lookup(head, words, samples, AT_513));
+    row(rt, lookup::lookup(head, words, samples, AT_511))?;
+    row(rt, lookup::lookup(head, words, samples, AT_512))?;
+    row(rt, lookup::lookup(head, words, samples, AT_513))
 }
 
 // A line: the position that a lookup answers, and the row.
-fn row(found: Found) {
+fn row(rt: &impl Print, found: Found) -> io::Result<()> {
     if let Found::Row(place) = found {
-        text(b"its row at position ");
-        number(place.position);
-        count(b"", place.row);
+        text(rt, b"its row at position ")?;
+        number(rt, place.position)?;
+        count(rt, b"", place.row)
     } else {
-        text(b"no row\n");
+        text(rt, b"no row\n")
     }
 }

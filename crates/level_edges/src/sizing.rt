@@ -1,28 +1,29 @@
 // Gammas on both sides of their two bounds, and the sizes of levels.
 use build_edges::small;
 use refusal::Made;
+use std::io;
 use trial::measure::measure;
 use trial::print::{made, number, text};
 
 // Whether one id is built.
-pub fn gammas() {
-    gamma(b"NaN", 0.0 / 0.0);
-    gamma(b"minus infinity", -1.0 / 0.0);
-    gamma(b"minus zero", -0.0);
-    gamma(b"1.01", 1.01);
-    gamma(b"the next above 1.01", 1.0100000000000002);
-    gamma(b"16", 16.0);
-    gamma(b"the next above 16", 16.000000000000004);
-    gamma(b"infinity", 1.0 / 0.0);
+pub fn gammas(rt: &impl Print) -> io::Result<()> {
+    gamma(rt, b"NaN", 0.0 / 0.0)?;
+    gamma(rt, b"minus infinity", -1.0 / 0.0)?;
+    gamma(rt, b"minus zero", -0.0)?;
+    gamma(rt, b"1.01", 1.01)?;
+    gamma(rt, b"the next above 1.01", 1.0100000000000002)?;
+    gamma(rt, b"16", 16.0)?;
+    gamma(rt, b"the next above 16", 16.000000000000004)?;
+    gamma(rt, b"infinity", 1.0 / 0.0)
 }
 
-fn gamma(name: &[u8], gamma: f64) {
-    text(b"gamma ");
-    text(name);
+fn gamma(rt: &impl Print, name: &[u8], gamma: f64) -> io::Result<()> {
+    text(rt, b"gamma ")?;
+    text(rt, name)?;
     let outcome = outcome(gamma);
     match outcome {
-        Made::Done => text(b": goes\n"),
-        Made::Refused(_) => made(b"", outcome),
+        Made::Done => text(rt, b": goes\n"),
+        Made::Refused(_) => made(rt, b"", outcome),
     }
 }
 
@@ -32,20 +33,20 @@ fn outcome(gamma: f64) -> Made {
     built.outcome
 }
 
-pub fn sizes() {
-    level(b"1.7, 151 ids", 1.7, 151);
-    level(b"16, 1048576 ids", 16.0, 1_048_576);
+pub fn sizes(rt: &impl Print) -> io::Result<()> {
+    level(rt, b"1.7, 151 ids", 1.7, 151)?;
+    level(rt, b"16, 1048576 ids", 16.0, 1_048_576)
 }
 
-fn level(name: &[u8], gamma: f64, ids: u64) {
+fn level(rt: &impl Print, name: &[u8], gamma: f64, ids: u64) -> io::Result<()> {
     let takes = measure(gamma, ids);
-    text(b"gamma ");
-    text(name);
-    text(b": ");
-    number(takes.bits);
-    text(b" bits, ");
-    number(takes.words);
-    text(b" words, ");
-    number(takes.samples);
-    text(b" samples\n");
+    text(rt, b"gamma ")?;
+    text(rt, name)?;
+    text(rt, b": ")?;
+    number(rt, takes.bits)?;
+    text(rt, b" bits, ")?;
+    number(rt, takes.words)?;
+    text(rt, b" words, ")?;
+    number(rt, takes.samples)?;
+    text(rt, b" samples\n")
 }

@@ -1,8 +1,11 @@
 // The cases of a list, one after the other, up to the check that ends it.
+#![tactic(auto)]
+
 use cases::{Case, holds};
-use libc::STDOUT_FILENO;
 use lists::file::{Cursor, Line, Next, next_byte, read_line};
 use lists::line::{MOST, copy};
+use std::io;
+use std::io::Read;
 use trial::stores::{first, first_mut};
 
 // How far a list is equal.
@@ -25,8 +28,9 @@ enum Step {
 // No list has more cases.
 const MOST_CASES: u64 = 1_000_000;
 
-// How far the list that starts here is equal.
+// How far the list that starts here in the file is equal.
 pub fn compare(
+    file: &mut impl Read,
     case: Case,
     start: Cursor,
     buffer: &mut [u8; 4096],
@@ -36,7 +40,7 @@ pub fn compare(
     let mut place = start;
     let mut cases: u64 = 0;
     while cases < MOST_CASES {
-        let step = next_case(case, place, buffer, numbers, store);
+        let step = next_case(file, case, place, buffer, numbers, store);
         match step {
             Step::Equal(next) => {
                 place = next;
@@ -52,19 +56,20 @@ pub fn compare(
 
 // The next line: a case, or the one number that ends the list, which is the check of all bytes before it.
 fn next_case(
+    file: &mut impl Read,
     case: Case,
     place: Cursor,
     buffer: &mut [u8; 4096],
     numbers: &mut [u64; MOST],
     store: &mut [u64],
 ) -> Step {
-    let line = read_line(place, buffer, numbers);
+    let line = read_line(file, place, buffer, numbers);
     let Line::Numbers(count, next) = line else {
         return Step::Broken;
     };
     if count == 1 {
         return if numbers[0] == place.check {
-            end(next, buffer)
+            end(file, next, buffer)
         } else {
             Step::Broken
         };
@@ -77,8 +82,8 @@ fn next_case(
 }
 
 // What comes after the check: nothing may.
-fn end(place: Cursor, buffer: &mut [u8; 4096]) -> Step {
-    let next = next_byte(place, buffer);
+fn end(file: &mut impl Read, place: Cursor, buffer: &mut [u8; 4096]) -> Step {
+    let next = next_byte(file, place, buffer);
     if let Next::End = next {
         Step::End
     } else {
@@ -99,12 +104,13 @@ fn is_equal(case: Case, count: usize, numbers: &[u64; MOST], store: &mut [u64]) 
 const PAST: usize = 8;
 
 // A line: the name of the list, and how far it is equal.
-pub fn report(name: &[u8], outcome: Compared) {
-    io::write_all(STDOUT_FILENO, name);
+pub fn report(rt: &impl Print, name: &[u8], outcome: Compared) -> io::Result<()> {
+    rt.write_all(name)?;
     match outcome {
-        Compared::Equal(cases) => say(b" ", cases, b" equal\n"),
-        Compared::Differs(case) => say(b" case ", case, b" differs\n"),
+        Compared::Equal(cases) => say(rt, b" ", cases, b" equal\n"),
+        Compared::Differs(case) => say(rt, b" case ", case, b" differs\n"),
         Compared::Broken(case) => say(
+            rt,
             b" line ",
             case,
             b" cannot be read, or the list was changed\n",
@@ -112,8 +118,8 @@ pub fn report(name: &[u8], outcome: Compared) {
     }
 }
 
-fn say(before: &[u8], n: u64, after: &[u8]) {
-    io::write_all(STDOUT_FILENO, before);
-    io::print_decimal(STDOUT_FILENO, n);
-    io::write_all(STDOUT_FILENO, after);
+fn say(rt: &impl Print, before: &[u8], n: u64, after: &[u8]) -> io::Result<()> {
+    rt.write_all(before)?;
+    print!(rt; "{n}")?;
+    rt.write_all(after)
 }

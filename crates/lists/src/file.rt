@@ -1,11 +1,11 @@
 // A list of answers, read from a file: lines of numbers in decimal, with one space between two.
 use crate::line::MOST;
 use mixer::{mix, wrapping_mul};
+use std::io::Read;
 
-// Where reading stands: the file, the bytes of the buffer that are still to be read, and the check of all bytes before.
+// Where reading of a file stands: the bytes of the buffer that are still to be read, and the check of all bytes before.
 #[derive(Clone, Copy)]
 pub struct Cursor {
-    pub file: i32,
     pub at: usize,
     pub end: usize,
     pub check: u64,
@@ -32,25 +32,23 @@ pub fn numbers() -> [u64; MOST] {
     [0; MOST]
 }
 
-pub fn start(file: i32) -> Cursor {
+pub fn start() -> Cursor {
     Cursor {
-        file,
         at: 0,
         end: 0,
         check: 0,
     }
 }
 
-// The next byte of the file.
-pub fn next_byte(place: Cursor, buffer: &mut [u8; 4096]) -> Next {
+// The next byte of the file, which ends too where it cannot be read.
+pub fn next_byte(file: &mut impl Read, place: Cursor, buffer: &mut [u8; 4096]) -> Next {
     let at = place.at;
     if at < place.end {
         if at < 4096 {
             return past(place, buffer[at], at + 1, place.end);
         }
     }
-    let got = libc::read(place.file, buffer);
-    let end = io::count(got, buffer);
+    let end = file.read(buffer).unwrap_or(0);
     if end == 0 {
         return Next::End;
     }
@@ -60,7 +58,6 @@ pub fn next_byte(place: Cursor, buffer: &mut [u8; 4096]) -> Next {
 // The byte, and the place past it.
 fn past(place: Cursor, byte: u8, at: usize, end: usize) -> Next {
     let next = Cursor {
-        file: place.file,
         at,
         end,
         check: mix(place.check ^ byte as u64, 0),
@@ -69,15 +66,19 @@ fn past(place: Cursor, byte: u8, at: usize, end: usize) -> Next {
 }
 
 // The next line's numbers.
-pub fn read_line(place: Cursor, buffer: &mut [u8; 4096], numbers: &mut [u64; MOST]) -> Line {
+pub fn read_line(
+    file: &mut impl Read,
+    place: Cursor,
+    buffer: &mut [u8; 4096],
+    numbers: &mut [u64; MOST],
+) -> Line {
     let mut next = place;
     let mut count: usize = 0;
     let mut value: u64 = 0;
     let mut left = LONGEST;
     while left > 0 {
         left -= 1;
-        let byte = next_byte(next, buffer);
-        let Next::Byte(byte, after) = byte else {
+        let Next::Byte(byte, after) = next_byte(file, next, buffer) else {
             return Line::Broken;
         };
         next = after;

@@ -1,4 +1,6 @@
 // Cases of lookups: what the numbers of a line are, and whether the lookup for hosts answers as it says.
+#![tactic(auto)]
+
 ghost use Rattle.std.specs.Prelude.{◌≤◌};
 ghost use Rattle.bounds.specs.Bounds.{head_sizes};
 

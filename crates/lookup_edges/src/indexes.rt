@@ -2,47 +2,49 @@
 use crate::looking::lookup;
 use build_edges::small;
 use head::Head;
+use std::io;
 
-pub fn lookups() {
-    of_two(&mut [7; 4], &mut [7; 1]);
-    of_one(&mut [7; 4], &mut [7; 1]);
-    of_none(&mut [7; 4], &mut [7; 1]);
+pub fn lookups(rt: &impl Print) -> io::Result<()> {
+    of_two(rt, &mut [7; 4], &mut [7; 1])?;
+    of_one(rt, &mut [7; 4], &mut [7; 1])?;
+    of_none(rt, &mut [7; 4], &mut [7; 1])
 }
 
-fn of_two(words: &mut [u64], samples: &mut [u64]) {
+fn of_two(rt: &impl Print, words: &mut [u64], samples: &mut [u64]) -> io::Result<()> {
     let built = small(2.0, &[9, 10], words, samples);
-    in_two(built.head, words, samples);
+    in_two(rt, built.head, words, samples)
 }
 
-fn of_one(words: &mut [u64], samples: &mut [u64]) {
+fn of_one(rt: &impl Print, words: &mut [u64], samples: &mut [u64]) -> io::Result<()> {
     let built = small(2.0, &[9], words, samples);
-    in_one(built.head, words, samples);
+    in_one(rt, built.head, words, samples)
 }
 
-fn of_none(words: &mut [u64], samples: &mut [u64]) {
+fn of_none(rt: &impl Print, words: &mut [u64], samples: &mut [u64]) -> io::Result<()> {
     let built = small(2.0, &[], words, samples);
-    in_none(built.head, words, samples);
+    in_none(rt, built.head, words, samples)
 }
 
-fn in_two(head: Head, words: &[u64], samples: &[u64]) {
-    lookup(b"9", head, words, samples, 9);
-    lookup(b"10", head, words, samples, 10);
-    lookup(b"a foreign id", head, words, samples, 11);
+fn in_two(rt: &impl Print, head: Head, words: &[u64], samples: &[u64]) -> io::Result<()> {
+    lookup(rt, b"9", head, words, samples, 9)?;
+    lookup(rt, b"10", head, words, samples, 10)?;
+    lookup(rt, b"a foreign id", head, words, samples, 11)
 }
 
-fn in_one(head: Head, words: &[u64], samples: &[u64]) {
-    lookup(b"9 where it is the one id", head, words, samples, 9);
-    lookup(b"11 where 9 is the one id", head, words, samples, 11);
+fn in_one(rt: &impl Print, head: Head, words: &[u64], samples: &[u64]) -> io::Result<()> {
+    lookup(rt, b"9 where it is the one id", head, words, samples, 9)?;
+    lookup(rt, b"11 where 9 is the one id", head, words, samples, 11)
 }
 
-fn in_none(head: Head, words: &[u64], samples: &[u64]) {
-    lookup(b"0 where there are no ids", head, words, samples, 0);
-    lookup(b"9 where there are no ids", head, words, samples, 9);
+fn in_none(rt: &impl Print, head: Head, words: &[u64], samples: &[u64]) -> io::Result<()> {
+    lookup(rt, b"0 where there are no ids", head, words, samples, 0)?;
+    lookup(rt, b"9 where there are no ids", head, words, samples, 9)?;
     lookup(
+        rt,
         b"2^64 - 1 where there are no ids",
         head,
         words,
         samples,
         u64::MAX,
-    );
+    )
 }

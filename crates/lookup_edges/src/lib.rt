@@ -1,4 +1,6 @@
 // Lookups in the indexes that `build` made of no, one and two ids.
+#![tactic(auto)]
+
 mod indexes;
 mod looking;
 

@@ -2,29 +2,37 @@
 use finding::{Found, Place};
 use head::Head;
 use refusal::Made;
+use std::io;
 use trial::print::{made, number, text};
 
 // A line: what is looked up, and the answer.
-pub fn lookup(name: &[u8], head: Head, words: &[u64], samples: &[u64], id: u64) {
-    text(b"lookup, ");
-    text(name);
-    answer(lookup::lookup(head, words, samples, id));
+pub fn lookup(
+    rt: &impl Print,
+    name: &[u8],
+    head: Head,
+    words: &[u64],
+    samples: &[u64],
+    id: u64,
+) -> io::Result<()> {
+    text(rt, b"lookup, ")?;
+    text(rt, name)?;
+    answer(rt, lookup::lookup(head, words, samples, id))
 }
 
-fn answer(found: Found) {
+fn answer(rt: &impl Print, found: Found) -> io::Result<()> {
     match found {
-        Found::Row(place) => row(place),
-        Found::None => text(b": none\n"),
-        Found::Refused(reason) => made(b"", Made::Refused(reason)),
+        Found::Row(place) => row(rt, place),
+        Found::None => text(rt, b": none\n"),
+        Found::Refused(reason) => made(rt, b"", Made::Refused(reason)),
     }
 }
 
-fn row(place: Place) {
-    text(b": row ");
-    number(place.row);
-    text(b" level ");
-    number(place.level);
-    text(b" position ");
-    number(place.position);
-    text(b"\n");
+fn row(rt: &impl Print, place: Place) -> io::Result<()> {
+    text(rt, b": row ")?;
+    number(rt, place.row)?;
+    text(rt, b" level ")?;
+    number(rt, place.level)?;
+    text(rt, b" position ")?;
+    number(rt, place.position)?;
+    text(rt, b"\n")
 }

@@ -3,21 +3,22 @@ use bounds::HEAD_SIZES;
 use head::Head;
 use image_edges::places::{mend, put};
 use image_edges::read;
+use std::io;
 use trial::print::{number, text};
 
-pub fn level_counts() {
-    levels_are(99);
-    levels_are(100);
-    levels_are(101);
+pub fn level_counts(rt: &impl Print) -> io::Result<()> {
+    levels_are(rt, 99)?;
+    levels_are(rt, 100)?;
+    levels_are(rt, 101)
 }
 
-fn levels_are(levels: u64) {
-    text(b"read, 100 sizes, levels ");
-    number(levels);
-    levels_in(levels, &mut [7; 5120]);
+fn levels_are(rt: &impl Print, levels: u64) -> io::Result<()> {
+    text(rt, b"read, 100 sizes, levels ")?;
+    number(rt, levels)?;
+    levels_in(rt, levels, &mut [7; 5120])
 }
 
-fn levels_in(levels: u64, image: &mut [u8]) {
+fn levels_in(rt: &impl Print, levels: u64, image: &mut [u8]) -> io::Result<()> {
     let head = Head {
         kind: 0,
         count: 3,
@@ -27,5 +28,5 @@ fn levels_in(levels: u64, image: &mut [u8]) {
     image::write(head, &[5; 400], &[6; 100], image);
     put(image, 4, levels);
     mend(image);
-    read(image, 400, 100);
+    read(rt, image, 400, 100)
 }

@@ -1,4 +1,6 @@
 // Reading the image of the index of 9, whose length, blocks, content or stores are changed on purpose.
+#![tactic(auto)]
+
 mod content;
 mod damage;
 mod levels;

@@ -1,43 +1,55 @@
 // Answers of the Rust, replayed: each list of data/ holds cases of one kind, what was asked and what boomphf answered, and the proved functions must answer the
 // same. One line is written for each kind: how many cases are equal, or the first that is not.
+#![tactic(auto)]
+
 use cases::Case;
 use list_cases::{compare, report};
 use lists::file::{numbers, start};
+use std::rt::Files;
+use std::{fs, io};
 
-fn main() {
-    replay(b"splitmix64", Case::Splitmix);
-    replay(b"mixer", Case::Mixer);
-    replay(b"fold", Case::Fold);
-    replay(b"position", Case::Position);
-    replay(b"size", Case::Size);
-    replay(b"new", Case::New);
-    replay(b"ones", Case::Ones);
-    replay(b"is_empty", Case::IsEmpty);
-    replay(b"len", Case::Len);
-    replay(b"contains", Case::Contains);
-    replay(b"insert", Case::Insert);
-    replay(b"remove", Case::Remove);
-    replay(b"insert_all", Case::InsertAll);
-    replay(b"eq_left", Case::EqLeft);
-    replay(b"members", Case::Members);
-    replay(b"level", Case::Level);
-    replay(b"samples", Case::Samples);
-    replay(b"rank", Case::Rank);
-    replay(b"lookup", Case::Lookup);
-    replay(b"build", Case::Build);
+fn main(rt: HostRuntime) -> io::Result<()> {
+    replay(&rt, "splitmix64", Case::Splitmix)?;
+    replay(&rt, "mixer", Case::Mixer)?;
+    replay(&rt, "fold", Case::Fold)?;
+    replay(&rt, "position", Case::Position)?;
+    replay(&rt, "size", Case::Size)?;
+    replay(&rt, "new", Case::New)?;
+    replay(&rt, "ones", Case::Ones)?;
+    replay(&rt, "is_empty", Case::IsEmpty)?;
+    replay(&rt, "len", Case::Len)?;
+    replay(&rt, "contains", Case::Contains)?;
+    replay(&rt, "insert", Case::Insert)?;
+    replay(&rt, "remove", Case::Remove)?;
+    replay(&rt, "insert_all", Case::InsertAll)?;
+    replay(&rt, "eq_left", Case::EqLeft)?;
+    replay(&rt, "members", Case::Members)?;
+    replay(&rt, "level", Case::Level)?;
+    replay(&rt, "samples", Case::Samples)?;
+    replay(&rt, "rank", Case::Rank)?;
+    replay(&rt, "lookup", Case::Lookup)?;
+    replay(&rt, "build", Case::Build)
 }
 
 // Compares the list of this name, and writes its line.
-fn replay(name: &[u8], case: Case) {
-    let file = os::open_read(name);
-    if file < 0 {
-        os::fail(name);
-        return;
-    }
-    let mut buffer = io::buffer();
+fn replay(rt: &(impl Files + Print + Eprint + Alloc), name: &str, case: Case) -> io::Result<()> {
+    let mut file = match fs::open(rt, name) {
+        Ok(file) => file,
+        Err(error) => return fail(rt, name, error),
+    };
+    let mut buffer = [0; 4096];
     let mut line = numbers();
     let mut copy = numbers();
-    let outcome = compare(case, start(file), &mut buffer, &mut line, &mut copy);
-    libc::close(file);
-    report(name, outcome);
+    let outcome = compare(&mut file, case, start(), &mut buffer, &mut line, &mut copy);
+    report(rt, name.as_bytes(), outcome)
+}
+
+// Writes a line to standard error: the name of the list, and why the system did not open it, without the number that an error shows too.
+fn fail(rt: &(impl Eprint + Alloc), name: &str, error: io::Error) -> io::Result<()> {
+    let shown = format!(in rt.alloc(); "{error}")?;
+    let words = match shown.split_once(" (os error ") {
+        Some((words, _)) => words,
+        None => shown.as_str(),
+    };
+    eprintln!(rt; "{name}: {words}")
 }

@@ -1,10 +1,8 @@
 -- The row of a number by the walk: it is below the count, and the answer of `find` tells it. Assumes nothing.
 use mathlib.Core.Path.{◌≡◌, sym, ap, ◌∙◌}
-use mathlib.Core.Logic.{◌⊎◌}
 use mathlib.Core.List.{List}
 use mathlib.Core.Option.{none, some}
 use Prim.Native.Nat.{ℕ, ◌<◌}
-use denote.Enum.Declared.{tag_of}
 use Rattle.mixer.specs.Position.{position}
 use Rattle.mixer.specs.declared.Kind.{Kind}
 use Rattle.head.specs.Layout.{size_at}
@@ -12,7 +10,6 @@ use Rattle.finding.specs.Find.{answer_of, row_in, find_in}
 use Rattle.finding.specs.declared.Place.{Place}
 use Rattle.finding.specs.declared.Found.{Found}
 use Rattle.finding.specs.declared.Found.TheVariants as F
-use Rattle.finding.specs.contracts.Found.{the_type}
 use Rattle.finding.proofs.Told.{found_below, told, not_told}
 use Rattle.rows.specs.Passes.{row_by}
 
@@ -25,6 +22,6 @@ module _ (kind : Kind) (count levels : ℕ) (sizes ws ss : List ℕ) (x : ℕ) (
   unfolding row_by
   row_told p q = ap row_in (sym e) ∙ told f p q
 
-  pub none_told : (tag_of the_type f ≡ 1) ⊎ (tag_of the_type f ≡ 2) → row_by kind count levels sizes ws ss x ≡ none
+  pub none_told : ((p : Place) → f ≡ F.Row p → ⊥) → row_by kind count levels sizes ws ss x ≡ none
   unfolding row_by
-  none_told t = ap row_in (sym e) ∙ not_told f t
+  none_told n = ap row_in (sym e) ∙ not_told f n

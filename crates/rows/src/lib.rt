@@ -1,5 +1,6 @@
 // The row list: at each row the id that lookup sends there.
 #![tactic(auto)]
+
 ghost use Rattle.std.specs.Prelude.{◌≡◌, ◌≤◌, length};
 ghost use Rattle.laws.specs.Bits.{words_for};
 ghost use Rattle.head.specs.Fit.{Fit};

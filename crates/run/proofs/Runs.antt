@@ -2,7 +2,7 @@
 use mathlib.Core.Path.{◌≡◌, refl, sym, ap, ap₂, ◌∙◌}
 use mathlib.Core.Bool.{true}
 use mathlib.Core.List.{List, []}
-use Prim.Native.Nat.{ℕ, suc, ◌+◌, ◌-◌, ◌≤◌, ◌<◌}
+use Prim.Native.Nat.{ℕ, suc, ◌+◌, ◌≤◌, ◌<◌}
 use native.Mathlib.Nat.{sub-zero}
 use native.Mathlib.Omega.{arith}
 use lib.Ieee.{Float}
@@ -15,7 +15,7 @@ use Rattle.laws.proofs.Counts.{empty}
 use Rattle.laws.specs.Stores.{fronted, zeros, filled, pasted}
 use Rattle.ranks.specs.Ranks.{set_bits, samples_of}
 use Rattle.ranks.proofs.ByRule.{next_base}
-use Rattle.rule.specs.Rule.{Rule, Room, rest, remaining, span, bit, base, fits, run, built, no_room, ids_left}
+use Rattle.rule.specs.Rule.{Rule, Room, rest, remaining, span, bit, base, fits, built, no_room, ids_left}
 use Rattle.rule.specs.Demand.{Reaches, none_left, out_of_room, at_limit}
 use Rattle.rule.proofs.Level.{unset_past, rest-length}
 use Rattle.rule.proofs.Levels.{remaining_fewer, all_accounted, spot-lt}
@@ -24,7 +24,7 @@ use Rattle.sizes.specs.Gamma.{Allowed}
 use Rattle.sizes.specs.Sizes.{size_for}
 use Rattle.sizes.proofs.Sizes.{size_mono}
 use Rattle.head.specs.Layout.{samples_of_size}
-use Rattle.run.specs.Stores.{Stores, stores}
+use Rattle.run.specs.Stores.{Stores}
 use Rattle.mixer.specs.declared.Kind.{Kind}
 use Rattle.head.specs.Index.{rule_of, room_of, words_at, samples_at, index_words, index_samples, index_sizes}
 use Rattle.run.specs.Turn.{next_size, TurnRoom, has_room, comers, spot, own_words, turned, next_progress, next_stores, level_turn}

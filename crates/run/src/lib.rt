@@ -1,4 +1,6 @@
 // The levels of a build, one after another: each is placed in the words from its place on, and its samples are written.
+#![tactic(auto)]
+
 ghost use Rattle.std.specs.Prelude.{◌≡◌, take, drop};
 ghost use Rattle.mixer.specs.Position.{position};
 ghost use Rattle.head.specs.Index.{rule_of};

@@ -1,5 +1,7 @@
 // Cases of the word set: what the numbers of a line are, and whether a call answers as it says. `store` is a copy of the line. A call that writes is lent a part
 // of it, which is longer than the call needs: what is left there is compared too.
+#![tactic(auto)]
+
 ghost use Rattle.std.specs.Prelude.{◌≤◌};
 
 use host::{

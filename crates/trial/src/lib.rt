@@ -1,4 +1,6 @@
 // What the programs `edges` and `replay` share, and the libraries of their cases.
+#![tactic(auto)]
+
 pub mod measure;
 pub mod print;
 pub mod stores;

@@ -1,90 +1,81 @@
 // Lines of text with numbers in them, on standard output.
-use libc::STDOUT_FILENO;
 use refusal::{Counted, Made, Refusal, Said};
+use std::io;
 
-pub fn text(words: &[u8]) {
-    io::write_all(STDOUT_FILENO, words);
+pub fn text(rt: &impl Print, words: &[u8]) -> io::Result<()> {
+    rt.write_all(words)
 }
 
-pub fn number(n: u64) {
-    io::print_decimal(STDOUT_FILENO, n);
+pub fn number(rt: &impl Print, n: u64) -> io::Result<()> {
+    print!(rt; "{n}")
 }
 
 // A line: what is listed, and the numbers.
-pub fn numbers(name: &[u8], list: &[u64]) {
-    text(name);
-    text(b":");
-    spell(list);
-    text(b"\n");
+pub fn numbers(rt: &impl Print, name: &[u8], list: &[u64]) -> io::Result<()> {
+    text(rt, name)?;
+    text(rt, b":")?;
+    spell(rt, list)?;
+    text(rt, b"\n")
 }
 
-fn spell(list: &[u64]) {
-    for i in 0..list.len() {
-        text(b" ");
-        number(list[i]);
+fn spell(rt: &impl Print, list: &[u64]) -> io::Result<()> {
+    for n in list {
+        print!(rt; " {n}")?;
     }
+    Ok(())
 }
 
 // A line: what was asked, and the answer.
-pub fn made(name: &[u8], answer: Made) {
-    text(name);
+pub fn made(rt: &impl Print, name: &[u8], answer: Made) -> io::Result<()> {
+    text(rt, name)?;
     match answer {
-        Made::Done => text(b": done\n"),
-        Made::Refused(reason) => refused(reason),
+        Made::Done => text(rt, b": done\n"),
+        Made::Refused(reason) => refused(rt, reason),
     }
 }
 
-pub fn said(name: &[u8], answer: Said) {
-    text(name);
+pub fn said(rt: &impl Print, name: &[u8], answer: Said) -> io::Result<()> {
+    text(rt, name)?;
     match answer {
-        Said::Yes => text(b": yes\n"),
-        Said::No => text(b": no\n"),
-        Said::Refused(reason) => refused(reason),
+        Said::Yes => text(rt, b": yes\n"),
+        Said::No => text(rt, b": no\n"),
+        Said::Refused(reason) => refused(rt, reason),
     }
 }
 
-pub fn counted(name: &[u8], answer: Counted) {
+pub fn counted(rt: &impl Print, name: &[u8], answer: Counted) -> io::Result<()> {
     match answer {
-        Counted::Count(n) => count(name, n),
+        Counted::Count(n) => count(rt, name, n),
         Counted::Refused(reason) => {
-            text(name);
-            refused(reason);
+            text(rt, name)?;
+            refused(rt, reason)
         }
     }
 }
 
-pub fn count(name: &[u8], n: u64) {
-    text(name);
-    text(b": ");
-    number(n);
-    text(b"\n");
+pub fn count(rt: &impl Print, name: &[u8], n: u64) -> io::Result<()> {
+    text(rt, name)?;
+    println!(rt; ": {n}")
 }
 
-fn refused(reason: Refusal) {
-    text(b": refused ");
-    number(refusal::number(reason));
-    text(b"\n");
+fn refused(rt: &impl Print, reason: Refusal) -> io::Result<()> {
+    let n = refusal::number(reason);
+    println!(rt; ": refused {n}")
 }
 
 // A part of a line: what a store is called, and what it holds: its numbers, or the one number of a long store.
-pub fn contents(name: &[u8], store: &[u64]) {
-    text(b", ");
-    text(name);
+pub fn contents(rt: &impl Print, name: &[u8], store: &[u64]) -> io::Result<()> {
+    text(rt, b", ")?;
+    text(rt, name)?;
     if store.len() > 8 {
-        if all_are(store, store[0]) {
-            text(b" all ");
-            number(store[0]);
-            return;
+        let n = store[0];
+        if all_are(store, n) {
+            return print!(rt; " all {n}");
         }
     }
-    spell(store);
+    spell(rt, store)
 }
 
 fn all_are(store: &[u64], n: u64) -> bool {
-    for i in 0..store.len() {
-        if store[i] != n {
-            return false;
-        }
-    }
-    true
+    store.iter().all(|x| *x == n)
 }

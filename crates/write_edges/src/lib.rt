@@ -1,7 +1,10 @@
 // Writing the index of 9, with a head, stores and a byte store that are changed on purpose. The byte store holds 7 everywhere.
+#![tactic(auto)]
+
 use bounds::HEAD_SIZES;
 use head::Head;
 use image_edges::places::word;
+use std::io;
 use trial::print::{contents, counted, number, text};
 use trial::stores::first;
 
@@ -10,30 +13,30 @@ const WORDS: [u64; 6] = [0, 0, 4, 0, 7, 7];
 
 const SAMPLES: [u64; 3] = [0, 7, 7];
 
-pub fn writes() {
-    write(head(0, 1, 1, 255, 0, 0), 4, 1, 1024);
-    write(head(0, 1, 1, 255, 0, 0), 6, 3, 1536);
-    unfit_heads();
-    write(head(0, 1, 1, 255, 0, 0), 3, 1, 1024);
-    write(head(0, 1, 1, 255, 0, 0), 4, 0, 1024);
-    write(head(0, 1, 1, 255, 1, 0), 4, 1, 1024);
-    write(head(0, 1, 1, 255, 0, 1), 4, 1, 1024);
-    write(head(0, 1, 1, 255, 0, 0), 4, 1, 1023);
+pub fn writes(rt: &impl Print) -> io::Result<()> {
+    write(rt, head(0, 1, 1, 255, 0, 0), 4, 1, 1024)?;
+    write(rt, head(0, 1, 1, 255, 0, 0), 6, 3, 1536)?;
+    unfit_heads(rt)?;
+    write(rt, head(0, 1, 1, 255, 0, 0), 3, 1, 1024)?;
+    write(rt, head(0, 1, 1, 255, 0, 0), 4, 0, 1024)?;
+    write(rt, head(0, 1, 1, 255, 1, 0), 4, 1, 1024)?;
+    write(rt, head(0, 1, 1, 255, 0, 1), 4, 1, 1024)?;
+    write(rt, head(0, 1, 1, 255, 0, 0), 4, 1, 1023)?;
     // 7 before 15, and 15 before 11.
-    write(head(0, 1, 1, 255, 1, 0), 3, 1, 1023);
-    write(head(0, 1, 1, 255, 1, 0), 4, 1, 1023);
+    write(rt, head(0, 1, 1, 255, 1, 0), 3, 1, 1023)?;
+    write(rt, head(0, 1, 1, 255, 1, 0), 4, 1, 1023)
 }
 
-fn unfit_heads() {
-    write(head(0, 1_048_576, 1, 255, 0, 0), 4, 1, 1024);
-    write(head(0, 1_048_577, 1, 255, 0, 0), 4, 1, 1024);
-    write(head(0, 1, 0, 255, 0, 0), 4, 1, 1024);
-    write(head(0, 1, 101, 255, 0, 0), 4, 1, 1024);
-    write(head(0, 1, 1, 254, 0, 0), 4, 1, 1024);
-    write(head(0, 1, 1, 256, 0, 0), 4, 1, 1024);
-    write(head(0, 1, 1, 257, 0, 0), 4, 1, 1024);
-    write(head(0, 1, 1, 257, 0, 0), 5, 1, 1024);
-    write(head(0, 1, 1, 16_777_217, 0, 0), 4, 1, 1024);
+fn unfit_heads(rt: &impl Print) -> io::Result<()> {
+    write(rt, head(0, 1_048_576, 1, 255, 0, 0), 4, 1, 1024)?;
+    write(rt, head(0, 1_048_577, 1, 255, 0, 0), 4, 1, 1024)?;
+    write(rt, head(0, 1, 0, 255, 0, 0), 4, 1, 1024)?;
+    write(rt, head(0, 1, 101, 255, 0, 0), 4, 1, 1024)?;
+    write(rt, head(0, 1, 1, 254, 0, 0), 4, 1, 1024)?;
+    write(rt, head(0, 1, 1, 256, 0, 0), 4, 1, 1024)?;
+    write(rt, head(0, 1, 1, 257, 0, 0), 4, 1, 1024)?;
+    write(rt, head(0, 1, 1, 257, 0, 0), 5, 1, 1024)?;
+    write(rt, head(0, 1, 1, 16_777_217, 0, 0), 4, 1, 1024)
 }
 
 // A head with these numbers, of which the last are the sizes of levels 0, 1 and 99.
@@ -51,10 +54,17 @@ pub fn head(kind: u64, count: u64, levels: u64, level_0: u64, level_1: u64, leve
 }
 
 // A line: an index by a head, from stores of so many places to so many bytes; what is found in the place of the two checks, how many bytes at the end are 7, and the answer.
-pub fn write(head: Head, words: usize, samples: usize, bytes: usize) {
+pub fn write(
+    rt: &impl Print,
+    head: Head,
+    words: usize,
+    samples: usize,
+    bytes: usize,
+) -> io::Result<()> {
     let sizes = head.sizes;
-    text(b"write");
+    text(rt, b"write")?;
     contents(
+        rt,
         b"head",
         &[
             head.kind,
@@ -64,22 +74,29 @@ pub fn write(head: Head, words: usize, samples: usize, bytes: usize) {
             sizes[1],
             sizes[99],
         ],
-    );
-    contents(b"room", &[words as u64, samples as u64, bytes as u64]);
+    )?;
+    contents(rt, b"room", &[words as u64, samples as u64, bytes as u64])?;
     write_to(
+        rt,
         head,
         first(&WORDS, words),
         first(&SAMPLES, samples),
         first_bytes(&mut [7; 1536], bytes),
-    );
+    )
 }
 
-fn write_to(head: Head, words: &[u64], samples: &[u64], image: &mut [u8]) {
+fn write_to(
+    rt: &impl Print,
+    head: Head,
+    words: &[u64],
+    samples: &[u64],
+    image: &mut [u8],
+) -> io::Result<()> {
     let answer = image::write(head, words, samples, image);
-    contents(b"checks", &[word(image, 63), word(image, 127)]);
-    text(b", kept ");
-    number(kept(image) as u64);
-    counted(b"", answer);
+    contents(rt, b"checks", &[word(image, 63), word(image, 127)])?;
+    text(rt, b", kept ")?;
+    number(rt, kept(image) as u64)?;
+    counted(rt, b"", answer)
 }
 
 // The first n bytes, or all, where there are fewer.

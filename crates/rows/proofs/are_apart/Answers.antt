@@ -1,19 +1,14 @@
 -- `rows::are_apart` meets its contract: the ids passed are apart, and the marks are their rows. Assumes nothing.
-use mathlib.Core.Path.{◌≡◌, refl}
-use Prim.Native.Nat.{◌-◌, ◌≤◌}
 use native.Mathlib.Omega.{arith}
-use lib.ListN.{length, take}
-use borrow.Author.Tests.{not-true, not-false}
-use Rattle.rows.specs.Passes.{row_by}
 use Rattle.rows.proofs.Sent.{row_below}
-use Rattle.rows.proofs.Marks.{Marking, marking_none, marking_more, marking_ends, marking_all}
+use Rattle.rows.proofs.Marks.{marking_more, marking_ends, marking_all}
 use Rattle.rows.proofs.are_apart.Goals as goal
 
 pub returns-then-not-mark_row : goal.returns-then-not-mark_row
 returns-then-not-mark_row c =
     let l = c.loop-i in
     marking_ends _ _ (row_below _ _ _ _ _ _) _ _ _ l.i (omega arith) l.invariant.3 _ _ c.mark_row.ensures
-    (not-true c.mark_row.result c.if-not-mark_row.true)
+    c.if-not-mark_row.true
 
 pub loop-i-preserved : goal.loop-i-preserved
 loop-i-preserved c =
@@ -22,7 +17,7 @@ loop-i-preserved c =
       l.invariant.1,
       omega arith,
       marking_more _ _ (row_below _ _ _ _ _ _) _ _ _ l.i (omega arith) l.invariant.3 _ _ (omega arith) c.mark_row.ensures
-          (not-false c.mark_row.result c.if-not-mark_row.false),
+          c.if-not-mark_row.false,
     )
 
 pub returns : goal.returns

@@ -1,12 +1,9 @@
 -- `rows::are_apart` meets its contract: the ids passed are apart, and the marks are their rows. Assumes nothing.
-use mathlib.Core.Path.{◌≡◌, refl}
+use mathlib.Core.Path.{◌≡◌}
 use Prim.Native.Nat.{◌-◌, ◌≤◌}
-use native.Mathlib.Omega.{arith}
 use lib.ListN.{length, take}
-use borrow.Author.Tests.{not-true, not-false}
 use Rattle.rows.specs.Passes.{row_by}
-use Rattle.rows.proofs.Sent.{row_below}
-use Rattle.rows.proofs.Marks.{Marking, marking_none, marking_more, marking_ends, marking_all}
+use Rattle.rows.proofs.Marks.{Marking}
 use Rattle.rows.proofs.are_apart.Given as goal
 
 abbrev pub invariant-loop-i : goal.invariant-loop-i

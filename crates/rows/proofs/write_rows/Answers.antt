@@ -1,9 +1,5 @@
 -- `rows::write_rows` meets its contract: the ids that are left, written from here on, give the whole. Assumes nothing.
-use mathlib.Core.Path.{◌≡◌, refl}
-use Prim.Native.Nat.{◌-◌, ◌≤◌}
 use native.Mathlib.Omega.{arith}
-use lib.ListN.{length, drop}
-use Rattle.rows.specs.Passes.{row_by, with_ids}
 use Rattle.rows.proofs.Lists.{writes_more, writes_done}
 use Rattle.rows.proofs.write_rows.Goals as goal
 

@@ -1,10 +1,8 @@
 -- `rows::write_rows` meets its contract: the ids that are left, written from here on, give the whole. Assumes nothing.
-use mathlib.Core.Path.{◌≡◌, refl}
+use mathlib.Core.Path.{◌≡◌}
 use Prim.Native.Nat.{◌-◌, ◌≤◌}
-use native.Mathlib.Omega.{arith}
 use lib.ListN.{length, drop}
 use Rattle.rows.specs.Passes.{row_by, with_ids}
-use Rattle.rows.proofs.Lists.{writes_more, writes_done}
 use Rattle.rows.proofs.write_rows.Given as goal
 
 abbrev pub invariant-loop-i : goal.invariant-loop-i
