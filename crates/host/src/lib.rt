@@ -1,4 +1,6 @@
 // The calls for hosts, which `host_c` exports. Every result is one number: a value, 2^64 - 1 for none, 2^64 - 1 - r for refusal r.
+#![tactic(auto)]
+
 mod answer;
 mod images;
 mod index;

@@ -1,0 +1,17 @@
+-- `host::index::shawltide_build` meets its contract. Assumes nothing.
+use native.Mathlib.Omega.{arith}
+use Rattle.run.specs.Stores.{stores}
+use Rattle.host.proofs.Flats.{build_short, build_asked}
+use Rattle.host.proofs.index.shawltide_build.Goals as goal
+
+pub returns-then-out-lt-OUT : goal.returns-then-out-lt-OUT
+returns-then-out-lt-OUT c =
+    let a = c.args in
+    build_short a.kind a.gamma a.ids.now (stores a.words.now a.samples.now a.collide.now a.rest.now) a.out.now (omega (arith, c.if-out-lt-OUT.true)) c.refused.ensures
+
+pub returns : goal.returns
+returns c =
+    let a = c.args in
+    let r = c.build-built.result in
+    build_asked a.kind a.gamma a.ids.now (stores a.words.now a.samples.now a.collide.now a.rest.now) a.out.now r.outcome r.head _ (omega (arith, c.if-out-lt-OUT.false)) c.made.ensures
+    c.value.ensures c.build-built.ensures c.write_out.ensures
