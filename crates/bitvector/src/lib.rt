@@ -1,5 +1,6 @@
 // Sets of numbers below a capacity, in words that the caller lends: bit b is bit b mod 64 of word b / 64. Each call checks what it is given.
 #![tactic(auto)]
+
 ghost use Rattle.std.specs.Prelude.{◌≡◌};
 ghost use Rattle.refusal.specs.Answers.{untouched, made, said, counted};
 ghost use Rattle.bitvector.specs.Calls.{new_call, ones_call, is_empty_call, len_call};

@@ -5,7 +5,7 @@ use Prim.Native.Nat.{ℕ, suc, ◌+◌, ◌*◌, ◌/◌, ◌%◌, ◌≤◌}
 use native.Mathlib.Nat.{add-zero}
 use native.Mathlib.Omega.{arith}
 use lib.ListN.{length, get_or, set, take, drop}
-use lib.Seq.{sets, sets-eq, drop-drop}
+use lib.Seq.{sets-eq, drop-drop}
 use Rattle.laws.specs.Stores.{pasted}
 use Rattle.block.specs.Bytes.{byte_of, bytes_of, word_at}
 

@@ -1,5 +1,6 @@
 // The blocks of an image, as bytes: words lowest byte first, the check of a block, and where content stands. What a step asks, its callers have proved.
 #![tactic(auto)]
+
 ghost use Rattle.std.specs.Prelude.{◌≡◌, ◌+◌, ◌*◌, ◌/◌, ◌≤◌, length};
 ghost use Rattle.laws.specs.Counting.{each};
 ghost use Rattle.laws.specs.Stores.{pasted};

@@ -1,6 +1,5 @@
 -- `bitvector::contains` meets its contract. Assumes nothing.
 use mathlib.Core.Path.{sym, ◌∙◌}
-use borrow.Author.Tests.{le-ltb}
 use Rattle.bitvector.proofs.Soundness.{yes_said}
 use Rattle.bitvector.proofs.Stores.{bit_word, contained}
 use Rattle.bitvector.proofs.contains.Goals as goal

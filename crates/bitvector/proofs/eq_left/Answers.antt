@@ -1,6 +1,5 @@
 -- `bitvector::eq_left` meets its contract. Assumes nothing.
 use mathlib.Core.Path.{sym, ◌∙◌}
-use borrow.Author.Tests.{le-leb, lt-leb}
 use native.Mathlib.Omega.{arith}
 use Rattle.bitvector.proofs.Soundness.{sound_room, yes_said}
 use Rattle.bitvector.proofs.Agreement.{compared}

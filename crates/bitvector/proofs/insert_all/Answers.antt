@@ -1,6 +1,5 @@
 -- `bitvector::insert_all` meets its contract. Assumes nothing.
 use mathlib.Core.Path.{sym, ◌∙◌}
-use borrow.Author.Tests.{ne_eqb}
 use native.Mathlib.Omega.{arith}
 use Rattle.bitvector.proofs.Soundness.{sound_room, yes_said}
 use Rattle.bitvector.proofs.Joining.{joined}

@@ -4,7 +4,6 @@ use Prim.Native.Nat.{◌%◌}
 use native.Mathlib.Nat.{mod-lt}
 use native.Mathlib.Omega.{arith}
 use lib.Dec.{lit<}
-use lib.Pow.{pow_pos}
 use Rattle.laws.proofs.Digits.{one_shl}
 use Rattle.refusal.specs.Answers.{answered}
 use Rattle.bitvector.proofs.Soundness.{roomy-has}
@@ -15,9 +14,7 @@ pub fill-requires : goal.fill-requires
 fill-requires c = let r = roomy-has _ _ (sym c.has_room.ensures ∙ c.if-not-has_room.false) in omega arith
 
 pub bounds-words-whole : goal.bounds-words-whole
-bounds-words-whole c =
-    let r = roomy-has _ _ (sym c.has_room.ensures ∙ c.if-not-has_room.false) in
-    omega arith
+bounds-words-whole c = let r = roomy-has _ _ (sym c.has_room.ensures ∙ c.if-not-has_room.false) in omega arith
 
 pub returns-then-part-gt0 : goal.returns-then-part-gt0
 returns-then-part-gt0 c =

@@ -1,14 +1,8 @@
 -- `block::check_at` meets its contract: the check of the first w words. Assumes nothing.
 use mathlib.Core.Path.{◌≡◌}
-use Prim.Native.Nat.{◌-◌, ◌≤◌}
-use native.Mathlib.Omega.{arith}
 use Rattle.laws.specs.Counting.{each}
-use Rattle.block.specs.Block.{check_place, check_of, block_word}
-use Rattle.block.proofs.Checks.{check_none, check_more}
+use Rattle.block.specs.Block.{check_of, block_word}
 use Rattle.block.proofs.check_at.Given as goal
 
 abbrev pub invariant-loop-w : goal.invariant-loop-w
-invariant-loop-w l = (l.w ≤ check_place) × (l.check ≡ check_of (each (block_word l.image l.b) l.w))
-
-abbrev pub decreases-loop-w : goal.decreases-loop-w
-decreases-loop-w l = check_place - l.w
+invariant-loop-w l = l.check ≡ check_of (each (block_word l.image l.b) l.w)

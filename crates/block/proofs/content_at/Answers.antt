@@ -1,5 +1,4 @@
 -- `block::content_at` meets its contract. Assumes nothing.
-use borrow.Author.Rules.{rules}
 use Rattle.block.specs.Block.{content_at}
 use Rattle.block.proofs.content_at.Goals as goal
 

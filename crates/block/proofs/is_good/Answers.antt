@@ -1,6 +1,4 @@
 -- `block::is_good` meets its contract. Assumes nothing.
-use native.Mathlib.Omega.{arith}
-use borrow.Author.Rules.{rules}
 use Rattle.block.proofs.Checks.{bad_number, good_number}
 use Rattle.block.proofs.is_good.Goals as goal
 

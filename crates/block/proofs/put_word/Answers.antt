@@ -1,7 +1,4 @@
 -- `block::put_word` meets its contract. Assumes nothing.
-use native.Mathlib.Omega.{arith}
-use lib.ListN.{length-set}
-use borrow.Author.Rules.{rules}
 use Rattle.block.proofs.Bytewise.{put_is}
 use Rattle.block.proofs.put_word.Goals as goal
 

@@ -1,7 +1,4 @@
 -- `block::word_at` meets its contract: each byte is below 2 ^ 8, so no sum comes to 2 ^ 64. Assumes nothing.
-use Prim.Native.Nat.{◌+◌, ◌*◌}
-use native.Mathlib.Omega.{arith}
-use borrow.Author.Rules.{rules}
 use Rattle.block.proofs.Bytewise.{word_is}
 use Rattle.block.proofs.word_at.Goals as goal
 

@@ -1,5 +1,4 @@
 -- `bitvector::checks::has_room` meets its contract. Assumes nothing.
-use borrow.Author.Rules.{rules}
 use borrow.Author.Tests.{le-leb, lt-leb}
 use Rattle.bitvector.specs.Calls.{roomy}
 use Rattle.bitvector.proofs.checks.has_room.Goals as goal

@@ -10,15 +10,12 @@ unfolding sound
 returns-then-not-has_room c = rw (sym c.has_room.ensures ∙ c.if-not-has_room.true)
 
 pub returns-then-past-eq0 : goal.returns-then-past-eq0
-unfolding sound
 returns-then-past-eq0 c = sym (sound_whole _ _ (sym c.has_room.ensures ∙ c.if-not-has_room.false) c.if-past-eq0.true)
 
 pub bounds-words-at : goal.bounds-words-at
-unfolding sound
 bounds-words-at c = let r = roomy-has _ _ (sym c.has_room.ensures ∙ c.if-not-has_room.false) in omega arith
 
 pub returns : goal.returns
-unfolding sound
 returns c =
     let r = sym c.has_room.ensures ∙ c.if-not-has_room.false in
     sym (sound_part _ _ r (λ i. (c.type_inv.words i).fits) c.if-past-eq0.false)

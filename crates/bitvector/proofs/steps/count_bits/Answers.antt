@@ -1,10 +1,7 @@
 -- `bitvector::steps::count_bits` meets its contract. Assumes nothing.
-use borrow.Author.Rules.{rules}
-use mathlib.Core.Path.{◌≡◌, ap, ◌∙◌}
-use Prim.Native.Nat.{ℕ, ◌+◌, ◌*◌, ◌-◌, ◌≤◌}
+use Prim.Native.Nat.{ℕ, ◌*◌}
 use native.Mathlib.Omega.{arith}
 use lib.Count.{ones-le}
-use Rattle.laws.specs.Counting.{rank}
 use Rattle.laws.specs.Bits.{has}
 use Rattle.laws.proofs.Sums.{rank-le}
 use Rattle.laws.proofs.Ones.{rank_next}
@@ -16,6 +13,4 @@ overflow_add-count c =
     omega (arith, ones-le 64 _ (c.type_inv.words i).fits, rank-le (has c.args.words.now) (64 * i))
 
 pub loop-i-preserved : goal.loop-i-preserved
-loop-i-preserved c =
-    let words = rank_next c.args.words.now (λ i. (c.type_inv.words i).fits) c.loop-i.i in
-    (omega arith, omega arith, omega arith)
+loop-i-preserved c = omega (arith, rank_next c.args.words.now (λ i. (c.type_inv.words i).fits) c.loop-i.i)

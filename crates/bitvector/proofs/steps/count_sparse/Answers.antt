@@ -21,7 +21,7 @@ loop-g-preserved c =
       | then-any_bit w ↦ omega (arith, w.count_bits-count.ensures)
       | else-any_bit w ↦ omega (arith, none_between ws from (from + 8) (omega arith) c.any_bit.ensures w.if-any_bit.false)
     ] in
-    (omega arith, next ∙ ap (rank (has ws)) end)
+    next ∙ ap (rank (has ws)) end
 
 pub overflow_add-result : goal.overflow_add-result
 overflow_add-result c =

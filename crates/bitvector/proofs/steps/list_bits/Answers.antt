@@ -15,7 +15,7 @@ pub list_words-next-requires-clause-out_fits : goal.list_words-next-requires-cla
 list_words-next-requires-clause-out_fits c =
     let l = c.loop-g in
     let all = sum_mono (λ p. one (has c.args.words.now p)) {m = 64 * (l.g * 8 + 8)} {n = 64 * c.args.n} (omega arith) in
-    omega (arith, all, l.invariant.1.told, front_length l.invariant.1)
+    omega (arith, all, l.invariant.told, front_length l.invariant)
 
 pub loop-g-preserved : goal.loop-g-preserved
 loop-g-preserved c =
@@ -24,15 +24,15 @@ loop-g-preserved c =
     let from : ℕ = l.g * 8 in
     let end : from + 8 ≡ (l.g + 1) * 8 = omega arith in
     let next : Front a.words.now a.out.now (from + 8) c.if-any_bit.next c.if-any_bit.out = elim c.if-any_bit.branch [
-      | then-any_bit w ↦ rw (w.next-is, w.out-is) (front_on _ _ from (from + 8) _ _ (omega arith) l.invariant.1 w.list_words-next.ensures)
+      | then-any_bit w ↦ rw (w.next-is, w.out-is) (front_on _ _ from (from + 8) _ _ (omega arith) l.invariant w.list_words-next.ensures)
       | else-any_bit w ↦
-        let none = none_between a.words.now from (from + 8) (omega arith) c.any_bit.ensures w.if-any_bit.false in
-        rw (w.next-is, w.out-is) (front_over _ _ from (from + 8) _ _ (omega arith) l.invariant.1 none)
+          let none = none_between a.words.now from (from + 8) (omega arith) c.any_bit.ensures w.if-any_bit.false in
+          rw (w.next-is, w.out-is) (front_over _ _ from (from + 8) _ _ (omega arith) l.invariant none)
     ] in
-    (omega arith, rw end at next)
+    rw end at next
 
 pub returns : goal.returns
 returns c =
     let a = c.args in
     let e : c.loop-g.g ≡ a.n / 8 = omega arith in
-    front_on _ _ (a.n / 8 * 8) a.n _ _ (omega arith) (rw e at c.loop-g.invariant.1) c.list_words.ensures
+    front_on _ _ (a.n / 8 * 8) a.n _ _ (omega arith) (rw e at c.loop-g.invariant) c.list_words.ensures
