@@ -32,12 +32,7 @@ pub fn read_changed(
     samples: usize,
     image: &mut [u8],
 ) -> io::Result<()> {
-    text(rt, b", bytes ")?;
-    number(rt, bytes as u64)?;
-    text(rt, b", word ")?;
-    number(rt, place as u64)?;
-    text(rt, b" is ")?;
-    number(rt, new)?;
+    print!(rt; ", bytes {bytes}, word {place} is {new}")?;
     put(image, place, new);
     mend_if(rt, mended, image)?;
     read(rt, first_bytes(image, bytes), words, samples)

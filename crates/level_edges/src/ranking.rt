@@ -3,7 +3,7 @@ use bounds::HEAD_SIZES;
 use finding::Found;
 use head::Head;
 use std::io;
-use trial::print::{count, number, numbers, text};
+use trial::print::{numbers, text};
 
 // Ids by their positions in a level 0 of 640 bits.
 const AT_511: u64 = 475;
@@ -39,9 +39,7 @@ fn rows(rt: &impl Print, words: &[u64], samples: &[u64]) -> io::Result<()> {
 // A line: the position that a lookup answers, and the row.
 fn row(rt: &impl Print, found: Found) -> io::Result<()> {
     if let Found::Row(place) = found {
-        text(rt, b"its row at position ")?;
-        number(rt, place.position)?;
-        count(rt, b"", place.row)
+        println!(rt; "its row at position {}: {}", place.position, place.row)
     } else {
         text(rt, b"no row\n")
     }

@@ -3,7 +3,7 @@ use build_edges::small;
 use refusal::Made;
 use std::io;
 use trial::measure::measure;
-use trial::print::{made, number, text};
+use trial::print::{made, text};
 
 // Whether one id is built.
 pub fn gammas(rt: &impl Print) -> io::Result<()> {
@@ -42,11 +42,8 @@ fn level(rt: &impl Print, name: &[u8], gamma: f64, ids: u64) -> io::Result<()> {
     let takes = measure(gamma, ids);
     text(rt, b"gamma ")?;
     text(rt, name)?;
-    text(rt, b": ")?;
-    number(rt, takes.bits)?;
-    text(rt, b" bits, ")?;
-    number(rt, takes.words)?;
-    text(rt, b" words, ")?;
-    number(rt, takes.samples)?;
-    text(rt, b" samples\n")
+    println!(rt;
+        ": {} bits, {} words, {} samples",
+        takes.bits, takes.words, takes.samples
+    )
 }

@@ -6,6 +6,7 @@ use lists::file::{Cursor, Line, Next, next_byte, read_line};
 use lists::line::{MOST, copy};
 use std::io;
 use std::io::Read;
+use trial::print::{number, text};
 use trial::stores::{first, first_mut};
 
 // How far a list is equal.
@@ -105,7 +106,7 @@ const PAST: usize = 8;
 
 // A line: the name of the list, and how far it is equal.
 pub fn report(rt: &impl Print, name: &[u8], outcome: Compared) -> io::Result<()> {
-    rt.write_all(name)?;
+    text(rt, name)?;
     match outcome {
         Compared::Equal(cases) => say(rt, b" ", cases, b" equal\n"),
         Compared::Differs(case) => say(rt, b" case ", case, b" differs\n"),
@@ -119,7 +120,7 @@ pub fn report(rt: &impl Print, name: &[u8], outcome: Compared) -> io::Result<()>
 }
 
 fn say(rt: &impl Print, before: &[u8], n: u64, after: &[u8]) -> io::Result<()> {
-    rt.write_all(before)?;
-    print!(rt; "{n}")?;
-    rt.write_all(after)
+    text(rt, before)?;
+    number(rt, n)?;
+    text(rt, after)
 }

@@ -3,7 +3,7 @@ use finding::{Found, Place};
 use head::Head;
 use refusal::Made;
 use std::io;
-use trial::print::{made, number, text};
+use trial::print::{made, text};
 
 // A line: what is looked up, and the answer.
 pub fn lookup(
@@ -28,11 +28,8 @@ fn answer(rt: &impl Print, found: Found) -> io::Result<()> {
 }
 
 fn row(rt: &impl Print, place: Place) -> io::Result<()> {
-    text(rt, b": row ")?;
-    number(rt, place.row)?;
-    text(rt, b" level ")?;
-    number(rt, place.level)?;
-    text(rt, b" position ")?;
-    number(rt, place.position)?;
-    text(rt, b"\n")
+    println!(rt;
+        ": row {} level {} position {}",
+        place.row, place.level, place.position
+    )
 }
