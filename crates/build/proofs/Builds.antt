@@ -8,12 +8,13 @@ use lib.ListN.{length, take, drop, replicate, length-append, length-drop, length
 use lib.Seq.{take_at}
 use native.Mathlib.Omega.{arith}
 use borrow.Author.Tests.{le-leb, lt-leb, leb-true, not-true}
+use Rattle.refusal.specs.declared.Made.{Made}
 use Rattle.refusal.specs.declared.Made.TheVariants.{Done, Refused}
 use Rattle.bounds.specs.Bounds.{max_ids, level_limit, head_sizes}
 use Rattle.laws.specs.Bits.{words_for}
 use Rattle.laws.proofs.Cases.{both}
 use Rattle.laws.proofs.Parts.{filled_whole}
-use Rattle.refusal.specs.Answers.{refused}
+use Rattle.refusal.specs.Answers.{made, refused}
 use Rattle.refusal.specs.declared.Refusal.{Refusal}
 use Rattle.refusal.specs.declared.Refusal.TheVariants.{GammaTooSmall, GammaTooLarge, TooManyIds, ShortWorkStore, UnknownKind}
 use Rattle.laws.specs.Stores.{fronted, zeros}
@@ -29,9 +30,10 @@ use Rattle.mixer.specs.declared.KindOf.TheVariants.{Known, Unknown}
 use Rattle.mixer.proofs.KindNumbers.{known_number}
 use Rattle.head.specs.Index.{no_head, rule_of, room_of}
 use Rattle.run.specs.Run.{run_of, Begun, Ran}
-use Rattle.build.specs.Ending.{prepared, after_run}
+use Rattle.build.specs.Ending.{prepared, after_run, RunRefused}
 use Rattle.run.specs.declared.Run.{Run}
 use Rattle.run.specs.declared.Run.TheVariants as R
+use Rattle.head.specs.declared.Head.{Head}
 
 -- ---- the checks in their turn
 
@@ -63,6 +65,20 @@ module _ (gamma : Float) (n collide rest : ℕ) where
           pub checked : words_for (size_for gamma n) ≤ collide → Done ≡ build_checks gamma n collide rest
           unfolding build_checks
           checked h = rw (a, b, le-leb n max_ids few, le-leb n rest in_rest, le-leb (words_for (size_for gamma n)) collide h)
+
+-- ---- a refused run
+
+pub refused_end : {why : Refusal} {ws ss : List ℕ} {outcome : Made} {head : Head} {ws' ss' : List ℕ} → RunRefused why ws ss outcome head ws' ss' → (collide rest : List ℕ)
+    → made outcome (build_after head (stores ws' ss' collide rest)) ≡ refused (build_after no_head (stores (zeros (length ws)) (zeros (length ss)) collide rest)) why
+refused_end r collide rest = rw (r.outcome_is, r.head_is, r.words_are, r.samples_are)
+
+-- ---- the stores that a run begins with
+
+pub prepared_is : (ids : List ℕ) (s : Stores) {ws ss cs rs : List ℕ}
+    → ws ≡ replicate (length s.words) 0 ++ drop (length s.words) s.words
+    → ss ≡ replicate (length s.samples) 0 ++ drop (length s.samples) s.samples
+    → cs ≡ replicate (length s.collide) 0 ++ drop (length s.collide) s.collide → rs ≡ fronted ids s.rest → stores ws ss cs rs ≡ prepared ids s
+prepared_is ids s p q u v = rw (p ∙ filled_whole s.words 0, q ∙ filled_whole s.samples 0, u ∙ filled_whole s.collide 0, v)
 
 -- ---- a build that passes the checks
 

@@ -2,19 +2,22 @@
 use mathlib.Core.Path.{◌≡◌, refl, sym, ap, ◌∙◌}
 use mathlib.Core.Bool.{Bool, true, false, cond, and-false}
 use mathlib.Core.List.{List, ◌++◌}
-use Prim.Native.Nat.{ℕ, ◌+◌, ◌-◌, ◌≤◌, ◌<◌}
+use Prim.Native.Nat.{ℕ, ◌+◌, ◌-◌, ◌*◌, ◌^◌, ◌≤◌, ◌<◌}
 use native.Mathlib.Nat.{add-sub_of_le}
 use native.Mathlib.Omega.{arith}
 use borrow.Author.Tests.{le-leb, lt-leb}
 use lib.Dec.{leb}
 use lib.Ieee.{Float}
 use lib.ListN.{length, take, drop, replicate, length-append, length-take, length-drop, replicate-append-replicate}
-use lib.Seq.{take_at, drop_at, length-take-le}
+use lib.Seq.{take_all, take_at, drop_at, length-take-le}
 use Rattle.bounds.specs.Bounds.{max_bits}
 use Rattle.laws.specs.Bits.{words_for, packed}
 use Rattle.laws.proofs.Packing.{length-packed}
-use Rattle.laws.proofs.Parts.{lent_from, drop_same}
+use Rattle.laws.proofs.Parts.{length_part, lent_from, take_same, drop_same}
+use Rattle.level.specs.Level.{ClearWords, LevelRoom}
 use Rattle.ranks.specs.Ranks.{set_bits, samples_of}
+use Rattle.ranks.specs.Sampling.{with_samples}
+use Rattle.ranks.proofs.Samples.{length_samples}
 use Rattle.rule.specs.Rule.{Rule, single}
 use Rattle.sizes.specs.Sizes.{size_for, samples_for}
 use Rattle.sizes.proofs.Sizes.{size_least, size_most}
@@ -25,12 +28,29 @@ use Rattle.run.specs.Turn.{Placeable, PlacedAt, Sampleable, SampledAt, next_size
 use Rattle.run.specs.declared.Progress.{Progress}
 use Rattle.run.specs.declared.Turn.TheVariants as T
 
+-- all places from `at` on, as they are lent
+lent_all : (at : ℕ) (store : List ℕ) → take (length store - at) (drop at store) ≡ drop at store
+lent_all at store = take_all (length store - at) (drop at store) (rw length-drop (omega arith))
+
 module _ (size count at : ℕ) (store words collide : List ℕ) (p : Placeable size count at store words collide) where
   abbrev n : ℕ
   n = words_for size
 
   abbrev lent : List ℕ
   lent = take (length words - at) (drop at words)
+
+  pub level_asks : LevelRoom size lent collide × (count ≤ length store) × ClearWords n lent × ClearWords n collide
+  level_asks = (
+    record {
+      positive = p.positive;
+      bound = p.bound;
+      own_room = rw lent_all (rw length-drop (omega (arith, p.in_words)));
+      collide_room = p.in_collide;
+    },
+    p.in_store,
+    rw (lent_all at words, p.clear_words) (take_same n (length words - at) 0 (omega (arith, p.in_words))),
+    ap (take n) p.clear_collide ∙ take_same n (length collide) 0 p.in_collide,
+  )
 
   -- the level's words, which hold a plain set, stand in the words from `at` on
   pub words_placed : (set : ℕ → Bool) {part : List ℕ} → part ≡ packed n set ++ drop n lent
@@ -47,6 +67,19 @@ module _ (size count at : ℕ) (store words collide : List ℕ) (p : Placeable s
       f ∙ rw (q, e, drop_at (packed n set) (drop n collide) n (length-packed n set))
       (ap (λ (c : List ℕ). replicate n 0 ++ drop n c) p.clear_collide ∙ ap (λ (c : List ℕ). replicate n 0 ++ c) (drop_same n m 0 p.in_collide)
       ∙ replicate-append-replicate n (m - n) 0 ∙ ap zeros (add-sub_of_le p.in_collide) ∙ sym p.clear_collide)
+
+module _ (at n before to : ℕ) (words samples : List ℕ) (p : Sampleable at n before to words samples) where
+  pub ranks_ask : (part : List ℕ) → part ≡ take n (drop at words)
+      → (samples_for (length part) ≤ length (take (length samples - to) (drop to samples))) × (before + 64 * length part < 2 ^ 64)
+  ranks_ask part e =
+      let l : length part ≡ n = length_part at n words p.in_words e in
+      rw (l, lent_all to samples, length-drop) (omega (arith, p.in_samples, p.few_words, p.few_set))
+
+  pub samples_placed : (part : List ℕ) {last : List ℕ} → part ≡ take n (drop at words) → last ≡ with_samples before part (take (length samples - to) (drop to samples))
+      → take to samples ++ (last ++ drop (length samples - to) (drop to samples)) ≡ pasted to (samples_of before (take n (drop at words))) samples
+  samples_placed part e f =
+      lent_from (λ ss. with_samples before part ss) to samples f
+      ∙ rw (e, length_samples before (take n (drop at words)))
 
 -- ---- the whole level
 
