@@ -1,5 +1,7 @@
 // Each call for hosts, called by the position of its arguments, with the promise of the call in the names of this file: were two parameters of one type
 // swapped in the call's signature, its own promise would move with them, and the promise here would no longer hold.
+#![tactic(auto)]
+
 ghost use Rattle.std.specs.Prelude.{◌≡◌};
 ghost use Rattle.refusal.specs.Answers.{untouched};
 ghost use Rattle.bitvector.specs.Calls.{new_call, ones_call, is_empty_call, len_call, contains_call, insert_call, remove_call, insert_all_call, eq_left_call, members_call};

@@ -1,5 +1,6 @@
 // The bounds of an index, and how far apart its samples stand. Each number is named once in code, here, and once for the promises, in
 // specs/Bounds.antt.
+#![tactic(auto)]
 
 pub const MAX_IDS: u64 = 1_048_576;
 

@@ -1,7 +1,7 @@
 -- What a user can rely on, said of the public calls as they are promised: `build_call`, `lookup_call` and `rows_call` are the answers and stores that `build`,
 -- `lookup` and `rows` leave. Of builds it speaks for known kinds, of one at a time: nothing is said between indexes of different kinds. An id is a number that
 -- stands in ids: `0 < count x ids`; `Same` lists hold the same ids, each as often, in any order.
-use Rattle.std.specs.Prelude.{◌≡◌, ◌↔◌, ◌⊎◌, Bool, true, false, ◌||◌, List, [], ◌++◌, ℕ, suc, ◌+◌, ◌*◌, ◌≤◌, ◌<◌, eqb, Float, length, get_or, drop}
+use Rattle.std.specs.Prelude.{◌≡◌, ◌↔◌, ◌⊎◌, Bool, true, false, ◌||◌, List, [], ◌++◌, ℕ, suc, ◌*◌, ◌≤◌, ◌<◌, eqb, Float, length, get_or, drop}
 use Rattle.refusal.specs.Answers.{Outcome, answered, refused}
 use Rattle.refusal.specs.declared.Made.{Made}
 use Rattle.refusal.specs.declared.Made.TheVariants.{Done}
@@ -9,7 +9,7 @@ use Rattle.bounds.specs.Bounds.{max_ids, level_limit}
 use Rattle.laws.specs.Counting.{count, Same}
 use Rattle.laws.specs.Bits.{words_for}
 use Rattle.build.specs.Build.{BuildEnd, build_after, refused_run, build_checks, ended, build_call}
-use Rattle.run.specs.Stores.{Stores, stores}
+use Rattle.run.specs.Stores.{Stores}
 use Rattle.mixer.specs.Kinds.{kind_number}
 use Rattle.mixer.specs.declared.Kind.{Kind}
 use Rattle.head.specs.declared.Head.{Head}

@@ -1,5 +1,5 @@
 -- Kinds that are not known, in a head that is written and in an image that is read; and the kind of an older image. Assumes nothing.
-use mathlib.Core.Path.{◌≡◌, refl, sym, ap, ◌∙◌}
+use mathlib.Core.Path.{◌≡◌, sym, ap, ◌∙◌}
 use mathlib.Core.List.{List}
 use Prim.Native.Nat.{ℕ, ◌+◌}
 use lib.Dec.{lit<}

@@ -1,11 +1,11 @@
 -- A function that is 0 from one number up to another. Assumes nothing.
 use mathlib.Core.Path.{◌≡◌, sym, ap, ◌∙◌}
-use mathlib.Core.Bool.{Bool, true, false, not}
+use mathlib.Core.Bool.{true, false, not}
 use Prim.Native.Nat.{ℕ, ◌+◌, ◌-◌, ◌≤◌, ◌<◌}
 use native.Mathlib.Omega.{arith}
-use borrow.Author.Tests.{eqb-true, eq-eqb, ne_eqb, not-false}
+use borrow.Author.Tests.{eqb-true, eq-eqb, not-false}
 use lib.Dec.{eqb}
-use Rattle.laws.specs.Counting.{rank, is_clear}
+use Rattle.laws.specs.Counting.{is_clear}
 use Rattle.laws.proofs.Cases.{Tri, lt, eq, gt, tri, refuted}
 use Rattle.laws.proofs.Sums.{rank_none, none_rank}
 

@@ -1,4 +1,6 @@
 // Why a call is refused: the table of refusal numbers, a case for each, with the value that it carries; and the answers that several calls share.
+#![tactic(auto)]
+
 ghost use Rattle.std.specs.Prelude.{◌≡◌};
 ghost use Rattle.refusal.specs.Table.{number_of, value_of};
 

@@ -14,5 +14,5 @@ pub samples-samples-requires : goal.samples-samples-requires
 samples-samples-requires c =
     let allowed : Allowed c.args.gamma = search rules in
     let small : c.size-bits.result ≤ max_bits =
-        rw c.size-bits.ensures (size_most c.args.gamma c.args.ids allowed (omega arith)) in
+    rw c.size-bits.ensures (size_most c.args.gamma c.args.ids allowed (omega arith)) in
     omega (arith, small, c.u64s-words.ensures)
