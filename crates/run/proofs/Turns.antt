@@ -26,6 +26,7 @@ use Rattle.run.specs.Stores.{Stores, stores}
 use Rattle.laws.specs.Stores.{zeros, pasted}
 use Rattle.run.specs.Turn.{Placeable, PlacedAt, Sampleable, SampledAt, next_size, TurnRoom, has_room, Turned, turned, next_progress, next_stores, level_turn}
 use Rattle.run.specs.declared.Progress.{Progress}
+use Rattle.run.specs.declared.Turn.{Turn}
 use Rattle.run.specs.declared.Turn.TheVariants as T
 
 -- all places from `at` on, as they are lent
@@ -174,6 +175,9 @@ module _ (gamma : Float) (at : Progress) (s : Stores) (r : TurnRoom gamma at s) 
             )
 
 -- ---- what a turn tells
+
+pub turn_is : {turn other : Turn} {after : Stores} {t : Turned} → turn ≡ other → turned turn after ≡ t → turned other after ≡ t
+turn_is {after = after} e f = ap (λ (x : Turn). turned x after) (sym e) ∙ f
 
 module _ (rule : Rule) (at : Progress) (s : Stores) where
   pub record IsPlaced (size : ℕ) (next : Progress) (after : Stores) : Type 0 where
