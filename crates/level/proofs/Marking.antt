@@ -49,7 +49,7 @@ module _ (g : ℕ → ℕ) (s : MarkStores) (id : ℕ) where
     pub level_bit : has (mark_one g s id).words j ≡ has s.words j || (eqb (g id) j && not (has s.collide j))
     pub collide_bit : has (mark_one g s id).collide j ≡ has s.collide j || (eqb (g id) j && has s.words j)
 
-  module _ (Own-room : g id / 64 < length s.words) (collide_room : g id / 64 < length s.collide) where
+  module _ (own_room : g id / 64 < length s.words) (collide_room : g id / 64 < length s.collide) where
     marked_here : Marked (g id)
     marked_here = go (has s.collide (g id)) refl (has s.words (g id)) refl
       where
@@ -63,7 +63,7 @@ module _ (g : ℕ → ℕ) (s : MarkStores) (id : ℕ) where
           collide_bit = rw (mark_again e f, e, f, same, put_here (with_put s.collide (g id)) collide_room);
         }
         go false e false f = record {
-          level_bit = rw (mark_first e f, e, same, or-true, put_here (with_put s.words (g id)) Own-room);
+          level_bit = rw (mark_first e f, e, same, or-true, put_here (with_put s.words (g id)) own_room);
           collide_bit = rw (mark_first e f, e, f, same);
         }
 
@@ -78,7 +78,7 @@ module _ (g : ℕ → ℕ) (s : MarkStores) (id : ℕ) where
             mark_cases (λ t. (has t.words j ≡ has s.words j) × (has t.collide j ≡ has s.collide j))
             (refl, refl)
             (refl, put_other (with_put s.collide (g id)) collide_room j n)
-            (put_other (with_put s.words (g id)) Own-room j n, refl)
+            (put_other (with_put s.words (g id)) own_room j n, refl)
 
     pub marked : (j : ℕ) → Marked j
     marked j = elim (ℕ_discrete j (g id)) [ yes e ↦ rw e marked_here | no n ↦ marked_there j n ]
