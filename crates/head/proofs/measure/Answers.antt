@@ -27,7 +27,7 @@ returns c =
     let l = c.loop-i in
     let a = c.args in
     let e : l.i ≡ a.levels = omega arith in
-    let w : Walk a.sizes.now a.levels l.words l.sampled = rw e at l.invariant.2 in
+    let w : Walk a.sizes.now a.levels l.words l.sampled = rw e at l.invariant in
     ap₂ (λ (words samples : ℕ). Uses (record { words = words; samples = samples })) w.words_are w.samples_are
     ∙ measured_uses _ _ _
     (bounded_is _ _ _ (record {

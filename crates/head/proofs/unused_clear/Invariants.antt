@@ -1,14 +1,9 @@
 -- `head::unused_clear` meets its contract: the sizes from the levels up to i are 0. Assumes nothing.
 use mathlib.Core.Path.{◌≡◌}
 use mathlib.Core.Bool.{true}
-use Prim.Native.Nat.{◌-◌, ◌≤◌}
-use Rattle.bounds.specs.Bounds.{head_sizes}
 use Rattle.laws.specs.Counting.{is_clear}
 use Rattle.head.specs.Layout.{size_at}
 use Rattle.head.proofs.unused_clear.Given as goal
 
 abbrev pub invariant-loop-i : goal.invariant-loop-i
-invariant-loop-i l = (l.levels ≤ l.i) × (l.i ≤ head_sizes) × (is_clear (size_at l.sizes) l.levels l.i ≡ true)
-
-abbrev pub decreases-loop-i : goal.decreases-loop-i
-decreases-loop-i l = head_sizes - l.i
+invariant-loop-i l = is_clear (size_at l.sizes) l.levels l.i ≡ true

@@ -18,22 +18,22 @@ overflow_add-ones c =
 pub loop-i-preserved : goal.loop-i-preserved
 loop-i-preserved c =
     let ws = c.args.words.now in
-    (c.loop-i.invariant.0, omega arith, omega (arith, rank_next ws (λ j. (c.type_inv.words j).fits) c.loop-i.i))
+    (c.loop-i.invariant.0, omega (arith, rank_next ws (λ j. (c.type_inv.words j).fits) c.loop-i.i))
 
 pub overflow_add-ones-then-below-gt0 : goal.overflow_add-ones-then-below-gt0
 overflow_add-ones-then-below-gt0 c =
     let a = c.args in
     let l = c.loop-i in
-    omega (arith, counted_own a.words.now a.position l.i _ _ (omega arith) l.invariant.2, rank-le (has a.words.now) a.position)
+    omega (arith, counted_own a.words.now a.position l.i _ _ (omega arith) l.invariant.1, rank-le (has a.words.now) a.position)
 
 pub returns-then-below-gt0 : goal.returns-then-below-gt0
 returns-then-below-gt0 c =
     let l = c.loop-i in
-    counted_from _ _ _ _ l.invariant.0 (counted_own _ _ l.i _ _ (omega arith) l.invariant.2)
+    counted_from _ _ _ _ l.invariant.0 (counted_own _ _ l.i _ _ (omega arith) l.invariant.1)
 
 pub returns-else-below-gt0 : goal.returns-else-below-gt0
 returns-else-below-gt0 c =
     let a = c.args in
     let l = c.loop-i in
     let e : 64 * l.i ≡ a.position = omega arith in
-    counted_from _ _ _ _ l.invariant.0 (l.invariant.2 ∙ ap (rank (has a.words.now)) e)
+    counted_from _ _ _ _ l.invariant.0 (l.invariant.1 ∙ ap (rank (has a.words.now)) e)

@@ -14,7 +14,7 @@ use Rattle.ranks.proofs.sample_level.Goals.{then-i-eq0, else-i-eq0}
 
 pub loop-i-init : goal.loop-i-init
 unfolding set_bits
-loop-i-init c = (omega arith, omega arith, sym (sampled_none _ _ _))
+loop-i-init c = (omega arith, sym (sampled_none _ _ _))
 
 pub overflow_add-ones : goal.overflow_add-ones
 unfolding set_bits
@@ -28,11 +28,10 @@ unfolding set_bits
 loop-i-preserved c =
     let l = c.loop-i in
     let ws = c.args.words.now in (
-      omega arith,
       omega (arith, rank_next ws (λ j. (c.type_inv.words j).fits) l.i),
       elim c.if-i-eq0.branch [
-        | then-i-eq0 w ↦ w.samples-is ∙ starts_sample _ _ _ l.i _ _ (omega arith) (omega arith) l.invariant.1 l.invariant.2
-        | else-i-eq0 w ↦ w.samples-is ∙ l.invariant.2 ∙ within_sample _ _ _ l.i (omega arith)
+        | then-i-eq0 w ↦ w.samples-is ∙ starts_sample _ _ _ l.i _ _ (omega arith) (omega arith) l.invariant.0 l.invariant.1
+        | else-i-eq0 w ↦ w.samples-is ∙ l.invariant.1 ∙ within_sample _ _ _ l.i (omega arith)
       ],
     )
 
@@ -43,6 +42,6 @@ returns c =
     let v = c.loop-i.invariant in
     let e : c.loop-i.i ≡ length a.words.now = omega arith in
     record {
-      store_is = v.2 ∙ ap (sampled_to _ _ _) e;
-      answer_is = v.1 ∙ ap (λ (n : ℕ). a.before + rank (has a.words.now) (64 * n)) e;
+      store_is = v.1 ∙ ap (sampled_to _ _ _) e;
+      answer_is = v.0 ∙ ap (λ (n : ℕ). a.before + rank (has a.words.now) (64 * n)) e;
     }

@@ -6,7 +6,7 @@ use Rattle.rows.proofs.write_rows.Goals as goal
 pub loop-i-preserved : goal.loop-i-preserved
 loop-i-preserved c =
     let l = c.loop-i in
-    (omega arith, l.invariant.1, omega arith, writes_more _ _ _ _ l.i l.invariant.3 _ (omega arith) c.write_row.ensures)
+    writes_more _ _ _ _ l.i l.invariant _ (omega arith) c.write_row.ensures
 
 pub returns : goal.returns
-returns c = writes_done _ _ _ _ c.loop-i.i c.loop-i.invariant.3 (omega arith)
+returns c = writes_done _ _ _ _ c.loop-i.i c.loop-i.invariant (omega arith)

@@ -1,21 +1,13 @@
 -- `image::reading::copy_content` meets its contract: the first i places are copied. Assumes nothing.
-use mathlib.Core.Path.{refl}
 use native.Mathlib.Omega.{arith}
-use lib.ListN.{length-set}
 use Rattle.image.proofs.Copies.{copied_none, copied_more, copied_whole}
 use Rattle.image.proofs.reading.copy_content.Goals as goal
 
 pub loop-i-init : goal.loop-i-init
-loop-i-init c = (omega arith, refl, refl, copied_none _ _)
+loop-i-init c = copied_none _ _
 
 pub loop-i-preserved : goal.loop-i-preserved
-loop-i-preserved c =
-    let l = c.loop-i in (
-      omega arith,
-      l.invariant.1,
-      simp length-set l.invariant.2,
-      copied_more _ _ _ l.i _ l.invariant.3 c.word_or_zero.ensures (omega arith),
-    )
+loop-i-preserved c = let l = c.loop-i in copied_more _ _ _ l.i _ l.invariant c.word_or_zero.ensures (omega arith)
 
 pub returns : goal.returns
-returns c = let l = c.loop-i in copied_whole _ _ _ _ _ l.i c.requires.0 (omega arith) l.invariant.3
+returns c = let l = c.loop-i in copied_whole _ _ _ _ _ l.i c.requires.0 (omega arith) l.invariant

@@ -1,12 +1,8 @@
 -- `image::writing::write_blocks` meets its contract: the first b blocks are written. Assumes nothing.
 use mathlib.Core.Path.{◌≡◌}
-use Prim.Native.Nat.{◌-◌, ◌≤◌}
 use Rattle.image.specs.Image.{content_of}
 use Rattle.image.proofs.BlockSteps.{blocks_in}
 use Rattle.image.proofs.writing.write_blocks.Given as goal
 
 abbrev pub invariant-loop-b : goal.invariant-loop-b
-invariant-loop-b l = (l.b ≤ l.n) × (l.image ≡ blocks_in (content_of (record { kind = l.kind; count = l.count; levels = l.levels; sizes = l.sizes }) l.words l.samples) l.initial.image l.b)
-
-abbrev pub decreases-loop-b : goal.decreases-loop-b
-decreases-loop-b l = l.n - l.b
+invariant-loop-b l = l.image ≡ blocks_in (content_of (record { kind = l.kind; count = l.count; levels = l.levels; sizes = l.sizes }) l.words l.samples) l.initial.image l.b

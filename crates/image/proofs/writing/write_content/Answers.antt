@@ -6,16 +6,12 @@ use Rattle.image.proofs.BlockSteps.{contented_none, contented_more, contented_al
 use Rattle.image.proofs.writing.write_content.Goals as goal
 
 pub loop-k-init : goal.loop-k-init
-loop-k-init c = (omega arith, contented_none _ _ _ _ c.check_step-check.ensures)
+loop-k-init c = contented_none _ _ _ _ c.check_step-check.ensures
 
 pub loop-k-preserved : goal.loop-k-preserved
 loop-k-preserved c =
-    let w = c in
-    let l = w.loop-k in (
-      omega arith,
-      contented_more _ _ _ w.requires.1 l.k _ _ _ _ _ (omega arith) l.invariant.1
-          w.content_word-word.ensures w.put_word.ensures c.check_step-check-in-loop-k.ensures,
-    )
+    let l = c.loop-k in
+    contented_more _ _ _ c.requires.1 l.k _ _ _ _ _ (omega arith) l.invariant c.content_word-word.ensures c.put_word.ensures c.check_step-check-in-loop-k.ensures
 
 pub returns : goal.returns
-returns c = let l = c.loop-k in let e : l.k ≡ block_content = omega arith in contented_all _ _ _ _ _ (rw e at l.invariant.1)
+returns c = let l = c.loop-k in let e : l.k ≡ block_content = omega arith in contented_all _ _ _ _ _ (rw e at l.invariant)

@@ -1,12 +1,7 @@
 -- `image::writing::write_content` meets its contract: the first k words of the content are written. Assumes nothing.
-use Prim.Native.Nat.{◌-◌, ◌≤◌}
-use Rattle.block.specs.Block.{block_content}
 use Rattle.image.specs.Image.{content_of}
 use Rattle.image.proofs.BlockSteps.{ContentedTo}
 use Rattle.image.proofs.writing.write_content.Given as goal
 
 abbrev pub invariant-loop-k : goal.invariant-loop-k
-invariant-loop-k l = (l.k ≤ block_content) × ContentedTo (content_of (record { kind = l.kind; count = l.count; levels = l.levels; sizes = l.sizes }) l.words l.samples) l.b l.initial.image l.k l.check l.image
-
-abbrev pub decreases-loop-k : goal.decreases-loop-k
-decreases-loop-k l = block_content - l.k
+invariant-loop-k l = ContentedTo (content_of (record { kind = l.kind; count = l.count; levels = l.levels; sizes = l.sizes }) l.words l.samples) l.b l.initial.image l.k l.check l.image
