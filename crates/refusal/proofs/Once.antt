@@ -1,15 +1,12 @@
 -- No room for a second answer: where the promise of a call is an outcome, two answers with their stores that meet it are equal. Assumes nothing.
 use mathlib.Core.Path.{◌≡◌, refl, sym, ap, ◌∙◌}
-use mathlib.Core.Bool.{cond}
+use mathlib.Core.Bool.{Bool, true, false, cond}
 use Prim.Native.Nat.{ℕ}
 use lib.Dec.{eqb}
-use Rattle.refusal.specs.Answers.{Outcome, made, said, counted}
-use Rattle.refusal.specs.declared.Made.{Made}
-use Rattle.refusal.specs.declared.Made.TheVariants as M
-use Rattle.refusal.specs.declared.Said.{Said}
-use Rattle.refusal.specs.declared.Said.TheVariants as S
-use Rattle.refusal.specs.declared.Counted.{Counted}
-use Rattle.refusal.specs.declared.Counted.TheVariants as C
+use Rattle.std.specs.Prelude.{Result, Ok, Err}
+use Rattle.laws.specs.Counting.{one}
+use Rattle.refusal.specs.Answers.{Outcome, told, made, said, counted}
+use Rattle.refusal.specs.declared.Refusal.{Refusal}
 use Rattle.refusal.proofs.Apart.{answer_back, refused_back}
 
 -- what is answered and left, if it is the outcome x, is the same
@@ -25,46 +22,31 @@ module _ (After : Type 0) where
     sym (stores a s) ∙ ap (λ (y : Outcome After). y.after) (e ∙ sym g) ∙ stores b t,
   )
 
-  abbrev made_back : ℕ → ℕ → Made
-  made_back n v = answer_back M.Done M.Refused n v
+  -- of a result, where what is answered can be read back from its number
+  module _ {A : Type 0} (value : A → ℕ) (back : ℕ → A) (back_value : (a : A) → back (value a) ≡ a) where
+    abbrev told_back : ℕ → ℕ → Result A Refusal
+    told_back n v = answer_back (Ok (back v)) Err n v
 
-  pub made_after : (a : Made) (s : After) → (made a s).after ≡ s
-  made_after M.Done s = refl
-  made_after (M.Refused r) s = refl
+    told_after : (a : Result A Refusal) (s : After) → (told value a s).after ≡ s
+    told_after (Ok a) s = refl
+    told_after (Err r) s = refl
 
-  pub made_once : (x : Outcome After) → Once After Made made x
-  made_once = once Made made made_back answer made_after
+    told_answer : (a : Result A Refusal) (s : After) → told_back (told value a s).refusal (told value a s).value ≡ a
+    told_answer (Ok a) s = ap Ok (back_value a)
+    told_answer (Err r) s = refused_back _ Err r
+
+    pub told_once : (x : Outcome After) → Once After (Result A Refusal) (told value) x
+    told_once = once (Result A Refusal) (told value) told_back told_answer told_after
+
+  pub made_once : (x : Outcome After) → Once After (Result Unit Refusal) made x
+  made_once = told_once (λ _. 0) (λ _. tt) (λ _. refl)
+
+  pub said_once : (x : Outcome After) → Once After (Result Bool Refusal) said x
+  said_once = told_once one (λ v. cond (eqb v 0) false true) back_one
     where
-      answer : (a : Made) (s : After) → made_back (made a s).refusal (made a s).value ≡ a
-      answer M.Done s = refl
-      answer (M.Refused r) s = refused_back _ M.Refused r
+      back_one : (b : Bool) → cond (eqb (one b) 0) false true ≡ b
+      back_one true = refl
+      back_one false = refl
 
-  abbrev said_back : ℕ → ℕ → Said
-  said_back n v = answer_back (cond (eqb v 0) S.No S.Yes) S.Refused n v
-
-  pub said_after : (a : Said) (s : After) → (said a s).after ≡ s
-  said_after S.Yes s = refl
-  said_after S.No s = refl
-  said_after (S.Refused r) s = refl
-
-  pub said_once : (x : Outcome After) → Once After Said said x
-  said_once = once Said said said_back answer said_after
-    where
-      answer : (a : Said) (s : After) → said_back (said a s).refusal (said a s).value ≡ a
-      answer S.Yes s = refl
-      answer S.No s = refl
-      answer (S.Refused r) s = refused_back _ S.Refused r
-
-  abbrev counted_back : ℕ → ℕ → Counted
-  counted_back n v = answer_back (C.Count v) C.Refused n v
-
-  pub counted_after : (a : Counted) (s : After) → (counted a s).after ≡ s
-  counted_after (C.Count n) s = refl
-  counted_after (C.Refused r) s = refl
-
-  pub counted_once : (x : Outcome After) → Once After Counted counted x
-  counted_once = once Counted counted counted_back answer counted_after
-    where
-      answer : (a : Counted) (s : After) → counted_back (counted a s).refusal (counted a s).value ≡ a
-      answer (C.Count n) s = refl
-      answer (C.Refused r) s = refused_back _ C.Refused r
+  pub counted_once : (x : Outcome After) → Once After (Result ℕ Refusal) counted x
+  counted_once = told_once (λ n. n) (λ n. n) (λ n. refl)

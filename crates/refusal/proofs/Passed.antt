@@ -1,12 +1,9 @@
 -- A check that does not refuse is passed. Assumes nothing.
 use mathlib.Core.Path.{◌≡◌, refl}
 use mathlib.Core.Bool.{Bool, true, false}
-use Prim.Native.Nat.{ℕ}
-use native.Mathlib.Omega.{arith}
+use Rattle.std.specs.Prelude.{Result, Ok, Err}
 use Rattle.refusal.specs.Answers.{Outcome, refused, check}
 use Rattle.refusal.specs.declared.Refusal.{Refusal}
-use Rattle.refusal.specs.declared.Made.{Made}
-use Rattle.refusal.specs.declared.Made.TheVariants.{Done, Refused}
 use Rattle.refusal.proofs.Apart.{not_none}
 
 -- of any answer, where no refusal is what is known of it
@@ -20,6 +17,6 @@ pub check_passed : {After : Type 0} (test : Bool) (reason : Refusal) (s : After)
     → (check test reason (refused s) next).refusal ≡ 0 → (test ≡ true) × (next.refusal ≡ 0)
 check_passed {After} test reason s next e = passed_by (λ (x : Outcome After). x.refusal ≡ 0) test reason (refused s) next (not_none reason) e
 
--- of checks that are done
-pub done_passed : (test : Bool) (reason : Refusal) (next : Made) → check test reason Refused next ≡ Done → (test ≡ true) × (next ≡ Done)
-done_passed test reason next e = passed_by (λ (m : Made). m ≡ Done) test reason Refused next (λ d. let z : ◌≡◌ {A = ℕ} 0 1 = cc in omega arith) e
+-- of checks whose result is no refusal
+pub ok_passed : {A : Type 0} {a : A} (test : Bool) (reason : Refusal) (next : Result A Refusal) → check test reason Err next ≡ Ok a → (test ≡ true) × (next ≡ Ok a)
+ok_passed {A} {a} test reason next e = passed_by (λ (m : Result A Refusal). m ≡ Ok a) test reason Err next (λ d. cc) e

@@ -1,10 +1,13 @@
-// Why a call is refused: the table of refusal numbers, a case for each, with the value that it carries; and the answers that several calls share.
+// Why a call is refused: the table of refusal numbers, a case for each, with the value that it carries. A call that may be refused answers a `Result`.
 #![tactic(auto)]
 
 ghost use Rattle.std.specs.Prelude.{◌≡◌};
 ghost use Rattle.refusal.specs.Table.{number_of, value_of};
 
-#[derive(Clone, Copy)]
+use std::error::Error;
+use std::fmt;
+
+#[derive(Clone, Copy, Debug, PartialEq, Eq)]
 pub enum Refusal {
     // 1: gamma is not above 1.01.
     GammaTooSmall,
@@ -40,70 +43,49 @@ pub enum Refusal {
     UnknownKind,
 }
 
-// What a call answers: done; yes or no; a count. Each can be a refusal with its reason.
-#[derive(Clone, Copy)]
-pub enum Made {
-    Done,
-    Refused(Refusal),
-}
+impl Refusal {
+    // Its number in the table.
+    pub fn number(self) -> u64
+        ensures { result ≡ number_of self }
+    {
+        match self {
+            Refusal::GammaTooSmall => 1,
+            Refusal::GammaTooLarge => 2,
+            Refusal::TooManyIds => 3,
+            Refusal::ShortWorkStore => 4,
+            Refusal::NoRoomForLevel(_) => 5,
+            Refusal::IdsRemain(_) => 6,
+            Refusal::UnfitHead => 7,
+            Refusal::UnfitRow => 8,
+            Refusal::BitOutside => 9,
+            Refusal::UnfitSet => 10,
+            Refusal::ShortOutput => 11,
+            Refusal::WrongIds => 12,
+            Refusal::UnfitLength => 13,
+            Refusal::BadBlock(_) => 14,
+            Refusal::UnfitContent => 15,
+            Refusal::UnknownKind => 16,
+        }
+    }
 
-#[derive(Clone, Copy)]
-pub enum Said {
-    Yes,
-    No,
-    Refused(Refusal),
-}
-
-#[derive(Clone, Copy)]
-pub enum Counted {
-    Count(u64),
-    Refused(Refusal),
-}
-
-// The refusal's number in the table.
-pub fn number(r: Refusal) -> u64
-    ensures { result ≡ number_of r }
-{
-    match r {
-        Refusal::GammaTooSmall => 1,
-        Refusal::GammaTooLarge => 2,
-        Refusal::TooManyIds => 3,
-        Refusal::ShortWorkStore => 4,
-        Refusal::NoRoomForLevel(_) => 5,
-        Refusal::IdsRemain(_) => 6,
-        Refusal::UnfitHead => 7,
-        Refusal::UnfitRow => 8,
-        Refusal::BitOutside => 9,
-        Refusal::UnfitSet => 10,
-        Refusal::ShortOutput => 11,
-        Refusal::WrongIds => 12,
-        Refusal::UnfitLength => 13,
-        Refusal::BadBlock(_) => 14,
-        Refusal::UnfitContent => 15,
-        Refusal::UnknownKind => 16,
+    // The value that 5, 6 or 14 carries, else 0.
+    pub fn value(self) -> u64
+        ensures { result ≡ value_of self }
+    {
+        match self {
+            Refusal::NoRoomForLevel(level) => level,
+            Refusal::IdsRemain(ids) => ids,
+            Refusal::BadBlock(block) => block,
+            _ => 0,
+        }
     }
 }
 
-// The value that 5, 6 or 14 carries, else 0.
-pub fn value(r: Refusal) -> u64
-    ensures { result ≡ value_of r }
-{
-    match r {
-        Refusal::GammaTooSmall => 0,
-        Refusal::GammaTooLarge => 0,
-        Refusal::TooManyIds => 0,
-        Refusal::ShortWorkStore => 0,
-        Refusal::NoRoomForLevel(level) => level,
-        Refusal::IdsRemain(ids) => ids,
-        Refusal::UnfitHead => 0,
-        Refusal::UnfitRow => 0,
-        Refusal::BitOutside => 0,
-        Refusal::UnfitSet => 0,
-        Refusal::ShortOutput => 0,
-        Refusal::WrongIds => 0,
-        Refusal::UnfitLength => 0,
-        Refusal::BadBlock(block) => block,
-        Refusal::UnfitContent => 0,
-        Refusal::UnknownKind => 0,
+// As the programs write it: `refused 6`.
+impl fmt::Display for Refusal {
+    fn fmt<W: fmt::Write>(&self, f: &mut fmt::Formatter<W>) -> fmt::Result {
+        write!(f, "refused {}", self.number())
     }
 }
+
+impl Error for Refusal {}
