@@ -1,4 +1,3 @@
 pub mod KindNumbers
-pub mod Words
 pub mod Positions
 pub mod OneToOne

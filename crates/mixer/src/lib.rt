@@ -2,56 +2,43 @@
 // of a level, and the position of the folded hash. The names are boomphf's where it has one.
 #![tactic(auto)]
 
-ghost use Rattle.std.specs.Prelude.{◌≡◌, ◌*◌, ◌%◌, ◌^◌, ◌≤◌};
+ghost use Rattle.std.specs.Prelude.{◌≡◌, ◌≤◌};
 ghost use Rattle.bounds.specs.Bounds.{max_bits};
 ghost use Rattle.mixer.specs.Kinds.{kind_of};
 ghost use Rattle.mixer.specs.Mixer.{mixed, seed_word, hashed};
 ghost use Rattle.mixer.specs.Position.{folded, scaled, position};
 
+use refusal::Refusal;
+
 // The known kinds of hash.
-#[derive(Clone, Copy)]
+#[derive(Clone, Copy, Debug, PartialEq, Eq)]
 pub enum Kind {
     // 0: the plain mixer.
     Plain,
 }
 
-// What the number of a kind stands for.
-#[derive(Clone, Copy)]
-pub enum KindOf {
-    Known(Kind),
-    Unknown,
-}
+// The kind that a number stands for. Every other number is refused.
+impl TryFrom<u64> for Kind {
+    type Error = Refusal;
 
-// The kind that a number stands for.
-pub fn kind_of(number: u64) -> KindOf
-    ensures { result ≡ kind_of number }
-{
-    if number == 0 {
-        return KindOf::Known(Kind::Plain);
+    ghost try_from_gives = { λ number kind. kind ≡ kind_of number };
+
+    #[tactic(auto, unfolding(crate::specs::Kinds::kind_of))]
+    fn try_from(number: u64) -> Result<Kind, Refusal> {
+        match number {
+            0 => Ok(Kind::Plain),
+            _ => Err(Refusal::UnknownKind),
+        }
     }
-    KindOf::Unknown
-}
-
-// a * b modulo 2^64. The halves' products fit, and that of the two high halves falls away.
-pub fn wrapping_mul(a: u64, b: u64) -> u64
-    ensures { result ≡ a * b % 2 ^ 64 }
-{
-    let high_a = a / 0x1_0000_0000;
-    let low_a = a % 0x1_0000_0000;
-    let high_b = b / 0x1_0000_0000;
-    let low_b = b % 0x1_0000_0000;
-    let middle = std::num::wrapping_add_u64(high_a * low_b, low_a * high_b);
-    std::num::wrapping_add_u64(middle % 0x1_0000_0000 * 0x1_0000_0000, low_a * low_b)
 }
 
 // The plain mixer.
 pub fn mix(id: u64, seed: u64) -> u64
     ensures { result ≡ mixed id seed }
 {
-    let sum = std::num::wrapping_add_u64(id, seed);
-    let z = std::num::wrapping_add_u64(sum, 0x9e37_79b9_7f4a_7c15);
-    let y = wrapping_mul(z ^ (z >> 30), 0xbf58_476d_1ce4_e5b9);
-    let x = wrapping_mul(y ^ (y >> 27), 0x94d0_49bb_1331_11eb);
+    let z = id.wrapping_add(seed).wrapping_add(0x9e37_79b9_7f4a_7c15);
+    let y = (z ^ (z >> 30)).wrapping_mul(0xbf58_476d_1ce4_e5b9);
+    let x = (y ^ (y >> 27)).wrapping_mul(0x94d0_49bb_1331_11eb);
     x ^ (x >> 31)
 }
 

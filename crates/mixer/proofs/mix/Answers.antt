@@ -7,5 +7,5 @@ pub returns : goal.returns
 unfolding mixed
 returns c =
     let a = c.args in
-    let z : c.wrapping_add_u64-z.result ≡ (a.id + a.seed + 0x9E37_79B9_7F4A_7C15) % 2 ^ 64 = omega arith in
+    let z : ((a.id + a.seed) % 2 ^ 64 + 0x9E37_79B9_7F4A_7C15) % 2 ^ 64 ≡ (a.id + a.seed + 0x9E37_79B9_7F4A_7C15) % 2 ^ 64 = omega arith in
     cc z
