@@ -7,6 +7,7 @@ use Prim.Native.Nat.{ℕ, suc, ◌+◌, ◌*◌, ◌≤◌, ◌<◌}
 use native.Mathlib.Nat.{eq-or-lt_of_le, le_of_suc-le-suc, le_trans, mul-le-mul_left}
 use native.Mathlib.Numerals.{add-one}
 use native.Mathlib.Omega.{arith}
+use Rattle.std.specs.Prelude.{None, Some}
 use borrow.Author.Tests.{eqb-true, eq-eqb, leb-true, le-leb, lt-leb}
 use lib.Dec.{leb}
 use Rattle.bounds.specs.Bounds.{max_ids, max_bits, min_bits, max_levels}
@@ -17,7 +18,6 @@ use Rattle.laws.proofs.Sums.{sum-most, rank_none, none_rank}
 use Rattle.head.specs.Layout.{samples_of_size, size_at, word_start, sample_start, size_fits, bounded, used_of, fit}
 use Rattle.head.specs.Fit.{Bounded, Fit, measured}
 use Rattle.head.specs.declared.Used.{Used}
-use Rattle.head.specs.declared.Measured.TheVariants.{Uses, Unfit}
 
 size_fits_lem : (size : ℕ) → min_bits ≤ size → size ≤ max_bits → not (size_fits size) ≡ false
 size_fits_lem size p q = rw (le-leb min_bits size p, le-leb size max_bits q)
@@ -55,28 +55,28 @@ module _ (count levels : ℕ) (sizes : List ℕ) where
       rw (le-leb 1 levels f.some_level, le-leb levels max_levels f.few_levels, eq-eqb (rank odd_size levels) 0 z, le-leb count max_ids f.few_ids)
 
   -- what is measured, by whether the bounds are kept
-  pub measured_uses : bounded count levels sizes ≡ true → Uses (used_of levels sizes) ≡ measured count levels sizes
+  pub measured_uses : bounded count levels sizes ≡ true → Some (used_of levels sizes) ≡ measured count levels sizes
   unfolding measured
   measured_uses e = rw e
 
-  pub measured_none : (Bounded count levels sizes → ⊥) → Unfit ≡ measured count levels sizes
+  pub measured_none : (Bounded count levels sizes → ⊥) → None ≡ measured count levels sizes
   unfolding measured
   measured_none n = rw (refuted (bounded count levels sizes) (λ e. n (bounded_known e)))
 
   -- and read back
-  pub uses_known : (used : Used) → Uses used ≡ measured count levels sizes → (bounded count levels sizes ≡ true) × (used ≡ used_of levels sizes)
+  pub uses_known : (used : Used) → Some used ≡ measured count levels sizes → (bounded count levels sizes ≡ true) × (used ≡ used_of levels sizes)
   unfolding measured
   uses_known used e = go (bounded count levels sizes) refl e
     where
-      go : (b : Bool) → bounded count levels sizes ≡ b → Uses used ≡ cond b (Uses (used_of levels sizes)) Unfit → (bounded count levels sizes ≡ true) × (used ≡ used_of levels sizes)
+      go : (b : Bool) → bounded count levels sizes ≡ b → Some used ≡ cond b (Some (used_of levels sizes)) None → (bounded count levels sizes ≡ true) × (used ≡ used_of levels sizes)
       go true f g = (f, cc)
       go false f g = let z : ◌≡◌ {A = ℕ} 0 1 = cc in absurd (omega arith)
 
-  pub unbounded_known : Unfit ≡ measured count levels sizes → bounded count levels sizes ≡ false
+  pub unbounded_known : None ≡ measured count levels sizes → bounded count levels sizes ≡ false
   unfolding measured
   unbounded_known e = go (bounded count levels sizes) refl e
     where
-      go : (b : Bool) → bounded count levels sizes ≡ b → Unfit ≡ cond b (Uses (used_of levels sizes)) Unfit → bounded count levels sizes ≡ false
+      go : (b : Bool) → bounded count levels sizes ≡ b → None ≡ cond b (Some (used_of levels sizes)) None → bounded count levels sizes ≡ false
       go true f g = let z : ◌≡◌ {A = ℕ} 0 1 = cc in absurd (omega arith)
       go false f g = f
 
@@ -86,7 +86,7 @@ pub record Few (levels : ℕ) (used : Used) : Type 0 where
   pub words : used.words ≤ words_for max_bits * max_levels
   pub samples : used.samples ≤ words_for max_bits * max_levels
 
-pub few_used : (count levels : ℕ) (sizes : List ℕ) (used : Used) → Uses used ≡ measured count levels sizes → Few levels used
+pub few_used : (count levels : ℕ) (sizes : List ℕ) (used : Used) → Some used ≡ measured count levels sizes → Few levels used
 few_used count levels sizes used e =
     let k = uses_known count levels sizes used e in
     let b = bounded_known count levels sizes k.0 in
@@ -119,11 +119,11 @@ module _ (count levels : ℕ) (sizes : List ℕ) (word_room sample_room : ℕ) w
   unfit n = refuted (fit count levels sizes word_room sample_room) (λ e. n (fit_known e))
 
   -- by what is measured
-  pub fit_unbounded : Unfit ≡ measured count levels sizes → false ≡ fit count levels sizes word_room sample_room
+  pub fit_unbounded : None ≡ measured count levels sizes → false ≡ fit count levels sizes word_room sample_room
   unfolding fit
   fit_unbounded e = rw (unbounded_known count levels sizes e)
 
-  module _ (used : Used) (e : Uses used ≡ measured count levels sizes) where
+  module _ (used : Used) (e : Some used ≡ measured count levels sizes) where
     pub fit_short : word_room < used.words → false ≡ fit count levels sizes word_room sample_room
     unfolding fit
     fit_short h = let k = uses_known count levels sizes used e in rw (k.0, lt-leb (word_start (size_at sizes) levels) word_room (rw k.1 at h))

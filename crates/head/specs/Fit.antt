@@ -1,9 +1,8 @@
 -- What a head that keeps its bounds is, part by part, and one that fits its stores too; and what measuring a head finds.
-use Rattle.std.specs.Prelude.{cond, List, ℕ, ◌≤◌, ◌<◌}
+use Rattle.std.specs.Prelude.{cond, List, ℕ, ◌≤◌, ◌<◌, Option, None, Some}
 use Rattle.bounds.specs.Bounds.{max_ids, max_bits, min_bits, max_levels}
 use Rattle.head.specs.Layout.{size_at, word_start, sample_start, bounded, used_of}
-use Rattle.head.specs.declared.Measured.{Measured}
-use Rattle.head.specs.declared.Measured.TheVariants.{Uses, Unfit}
+use Rattle.head.specs.declared.Used.{Used}
 
 pub record Bounded (count levels : ℕ) (sizes : List ℕ) : Type 0 where
   pub some_level : 1 ≤ levels
@@ -17,6 +16,6 @@ pub record Fit (count levels : ℕ) (sizes : List ℕ) (for_words for_samples : 
   pub word_room : word_start (size_at sizes) levels ≤ for_words
   pub sample_room : sample_start (size_at sizes) levels ≤ for_samples
 
--- what is found of the numbers of a head: they are unfit, or its levels use so much
-unfoldable pub measured : ℕ → ℕ → List ℕ → Measured
-measured count levels sizes = cond (bounded count levels sizes) (Uses (used_of levels sizes)) Unfit
+-- what the levels use, if the numbers of a head keep their bounds
+unfoldable pub measured : ℕ → ℕ → List ℕ → Option Used
+measured count levels sizes = cond (bounded count levels sizes) (Some (used_of levels sizes)) None

@@ -1,6 +1,5 @@
 // A head as numbers, one after another: kind, id count, level count, sizes.
 ghost use Rattle.std.specs.Prelude.{◌≡◌, ◌≤◌, ◌<◌, length, get_or};
-ghost use Rattle.bounds.specs.Bounds.{head_sizes};
 ghost use Rattle.laws.specs.Stores.{fronted};
 ghost use Rattle.head.specs.Numbers.{head_numbers, head_of, numbers_of};
 
@@ -12,50 +11,43 @@ const BEFORE_SIZES: usize = 3;
 
 pub const NUMBERS: usize = BEFORE_SIZES + HEAD_SIZES;
 
-// The head of so many numbers.
-pub fn read(numbers: &[u64]) -> Head
-    requires { length numbers.now ≡ head_numbers }
-    ensures { result ≡ head_of numbers.now }
-{
-    let mut sizes = [0; HEAD_SIZES];
-    for i in 0..HEAD_SIZES {
-        sizes[i] = numbers[BEFORE_SIZES + i];
+impl Head {
+    // The head of so many numbers.
+    pub fn read(numbers: &[u64]) -> Head
+        requires { length numbers.now ≡ head_numbers }
+        ensures { result ≡ head_of numbers.now }
+    {
+        let mut sizes = [0; HEAD_SIZES];
+        sizes.copy_from_slice(&numbers[BEFORE_SIZES..]);
+        Head {
+            kind: numbers[0],
+            count: numbers[1],
+            levels: numbers[2],
+            sizes,
+        }
     }
-    Head {
-        kind: numbers[0],
-        count: numbers[1],
-        levels: numbers[2],
-        sizes,
-    }
-}
 
-// Writes the numbers of a head to the front of a store.
-pub fn write(kind: u64, count: u64, levels: u64, sizes: &[u64; HEAD_SIZES], out: &mut [u64])
-    requires { (length sizes.now ≡ head_sizes) × (head_numbers ≤ length out.old) }
-    ensures { out.new
-        ≡ fronted (numbers_of (record { kind = kind; count = count; levels = levels; sizes = sizes.now })) out.old }
-{
-    out[0] = kind;
-    out[1] = count;
-    out[2] = levels;
-    for i in 0..HEAD_SIZES {
-        out[BEFORE_SIZES + i] = sizes[i];
+    // Writes its numbers to the front of a store.
+    pub fn write(&self, out: &mut [u64])
+        requires { head_numbers ≤ length out.old }
+        ensures { out.new ≡ fronted (numbers_of self.now) out.old }
+    {
+        out[0] = self.kind;
+        out[1] = self.count;
+        out[2] = self.levels;
+        out[BEFORE_SIZES..NUMBERS].copy_from_slice(&self.sizes);
     }
-}
 
-// Number i of a head.
-pub fn at(kind: u64, count: u64, levels: u64, sizes: &[u64; HEAD_SIZES], i: usize) -> u64
-    requires { (length sizes.now ≡ head_sizes) × (i < head_numbers) }
-    ensures { result ≡ get_or (numbers_of (record { kind = kind; count = count; levels = levels; sizes = sizes.now })) i 0 }
-{
-    if i == 0 {
-        return kind;
+    // Its number i.
+    pub fn number(&self, i: usize) -> u64
+        requires { i < head_numbers }
+        ensures { result ≡ get_or (numbers_of self.now) i 0 }
+    {
+        match i {
+            0 => self.kind,
+            1 => self.count,
+            2 => self.levels,
+            _ => self.sizes[i - BEFORE_SIZES],
+        }
     }
-    if i == 1 {
-        return count;
-    }
-    if i == 2 {
-        return levels;
-    }
-    sizes[i - BEFORE_SIZES]
 }
