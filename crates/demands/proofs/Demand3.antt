@@ -13,7 +13,7 @@ use lib.Dec.{eqb, lit<}
 use lib.Ieee.{Float}
 use lib.ListN.{length, get_or}
 use lib.Seq.{ext_get_or}
-use Rattle.refusal.specs.declared.Made.TheVariants as M
+use Rattle.std.specs.Prelude.{Ok, Err}
 use Rattle.bounds.specs.Bounds.{max_ids}
 use Rattle.demands.specs.Demands.{build_by, room_in, Lookups, listed_as, IndexRows, Indexed, Demand3}
 use Rattle.demands.specs.Levels.{EachLevelLeft, samples_by, FromWords}
@@ -33,7 +33,6 @@ use Rattle.head.specs.Index.{rule_of, room_of}
 use Rattle.finding.specs.Find.{found, nothing, answer_of, row_in}
 use Rattle.lookup.specs.Lookup.{lookup_call}
 use Rattle.rows.specs.Rows.{is_none, is_row, apart, listed, rows_by, rows_call}
-use Rattle.finding.specs.declared.Found.TheVariants as F
 use Rattle.head.specs.declared.Head.{Head}
 use Rattle.rows.proofs.Lists.{apart_is}
 use Rattle.head.proofs.Indexes.{rule_sound}
@@ -226,7 +225,7 @@ module _ (kind : Kind) (gamma : Float) (ids : List ℕ) (s : Stores) where
   demand3 = record { refused = λ b r. refusals kind gamma ids s r b; accepted = indexed; kind_kept = kind_kept; any_order = λ others e. build_any_order kind gamma e s }
 
   -- the same of what `build` returns where it is not refused, by its promise
-  pub returned : (head : Head) (after : Stores) → built_of M.Done head after ≡ build_by kind gamma ids s → Indexed ids (built_of M.Done head after)
+  pub returned : (head : Head) (after : Stores) → built_of (Ok head) after ≡ build_by kind gamma ids s → Indexed ids (built_of (Ok head) after)
   returned head after e = subst (Indexed ids) (sym e) (indexed (ap (λ (x : BuildEnd). x.refusal) (sym e)))
 
   -- The samples of an accepted build are those that its head and its words give.
@@ -251,7 +250,7 @@ samples_decided head words ss ts e f l = e.store ∙ ap (filled (chain (samples_
 -- ---- no lookup in an index is refused, by the promise of `lookup`: its answer is a row or none
 
 pub never_refused : {ids : List ℕ} {end : BuildEnd} → Indexed ids end → (x : ℕ) (why : Refusal)
-    → answer_of (F.Refused why) ≡ lookup_call end.after.head end.after.stores.words end.after.stores.samples x → ⊥
+    → answer_of (Err why) ≡ lookup_call end.after.head end.after.stores.words end.after.stores.samples x → ⊥
 never_refused t x why e =
     elim (t.lookups.any_number x) [
       | inl n ↦ let z : ◌≡◌ {A = ℕ} 0 1 = cc in absurd (omega arith)

@@ -3,14 +3,15 @@ use mathlib.Core.Path.{◌≡◌, refl, sym, ap, ◌∙◌}
 use mathlib.Core.Logic.{inl, inr}
 use Prim.Native.Nat.{ℕ, ◌-◌, ◌^◌}
 use Rattle.mixer.specs.Kinds.{kind_of}
-use Rattle.mixer.specs.declared.KindOf.TheVariants.{Unknown}
+use Rattle.std.specs.Prelude.{Err}
+use Rattle.refusal.specs.declared.Refusal.TheVariants.{UnknownKind}
 use Rattle.mixer.proofs.KindNumbers.{number_or_not}
 use Rattle.build.proofs.Builds.{build_unknown}
 use Rattle.lookup.proofs.Lookups.{lookup_unknown}
 use Rattle.rows.proofs.RowCalls.{call_unknown}
 use Rattle.demands.specs.Demands.{NoKind, KindOrNone}
 
-pub no_kind : (number : ℕ) → kind_of number ≡ Unknown → NoKind number
+pub no_kind : (number : ℕ) → kind_of number ≡ Err UnknownKind → NoKind number
 no_kind number u = record {
   build = λ gamma ids s. sym (build_unknown gamma ids s number u);
   lookup = λ head ws ss x e. sym (lookup_unknown head ws ss x (ap kind_of e ∙ u));

@@ -8,7 +8,6 @@ use lib.ListN.{length}
 use Rattle.mixer.specs.declared.Kind.{Kind}
 use Rattle.bounds.specs.Bounds.{level_limit}
 use Rattle.refusal.specs.declared.Refusal.TheVariants.{NoRoomForLevel, IdsRemain}
-use Rattle.refusal.specs.declared.Made.TheVariants.{Refused}
 use Rattle.rule.specs.Rule.{Rule, Room, remaining, fits, run}
 use Rattle.rule.specs.Demand.{Reaches}
 use Rattle.rule.proofs.Run.{full_known, remaining_known}
@@ -30,13 +29,13 @@ module _ (kind : Kind) (gamma : Float) (ids : List ℕ) (s : Stores) where
   ran : (x : BuildEnd) → of_run x.refusal ≡ true → x ≡ build_by kind gamma ids s → ended kind gamma ids s (run rule room ids level_limit) ≡ x
   ran x h e = sym (e ∙ by_run kind gamma ids s (rw e at h))
 
-  module _ (head : Head) (t : Stores) where
+  module _ (t : Stores) where
     -- 5 gives the level that the run comes to and that has no room
-    pub level_fixed : (i : ℕ) → built_of (Refused (NoRoomForLevel i)) head t ≡ build_by kind gamma ids s
+    pub level_fixed : (i : ℕ) → built_of (Err (NoRoomForLevel i)) t ≡ build_by kind gamma ids s
         → (i < level_limit) × Reaches rule room ids i × (fits rule room ids (suc i) ≡ false)
-    level_fixed i e = full_known rule room ids level_limit i (was_5 kind gamma ids s head t (run rule room ids level_limit) i (ran _ refl e))
+    level_fixed i e = full_known rule room ids level_limit i (was_5 kind gamma ids s t (run rule room ids level_limit) i (ran _ refl e))
 
     -- 6 gives how many ids are left after the last level, to which the run comes
-    pub count_fixed : (n : ℕ) → built_of (Refused (IdsRemain n)) head t ≡ build_by kind gamma ids s
+    pub count_fixed : (n : ℕ) → built_of (Err (IdsRemain n)) t ≡ build_by kind gamma ids s
         → Reaches rule room ids level_limit × (length (remaining rule ids level_limit) ≡ n)
-    count_fixed n e = remaining_known rule room ids level_limit n (was_6 kind gamma ids s head t (run rule room ids level_limit) n (ran _ refl e))
+    count_fixed n e = remaining_known rule room ids level_limit n (was_6 kind gamma ids s t (run rule room ids level_limit) n (ran _ refl e))

@@ -9,8 +9,8 @@ use lib.Dec.{eqb, leb}
 use lib.Ieee.{Float}
 use lib.ListN.{length, drop}
 use Rattle.mixer.specs.declared.Kind.{Kind}
-use Rattle.refusal.specs.declared.Made.{Made}
-use Rattle.refusal.specs.declared.Made.TheVariants.{Done, Refused}
+use Rattle.std.specs.Prelude.{Result, Ok, Err}
+use Rattle.refusal.specs.declared.Refusal.{Refusal}
 use Rattle.bounds.specs.Bounds.{level_limit}
 use Rattle.demands.specs.Demands.{build_by, checks_of, room_in, SameRoom, SameEnd}
 use Rattle.demands.proofs.Outcomes.{Apart, checks_apart, build_is}
@@ -109,9 +109,9 @@ module _ (kind : Kind) (gamma : Float) {xs ys : List ℕ} (s : Same xs ys) where
   pub build_any_order : (t : Stores) → build_by kind gamma xs t ≡ build_by kind gamma ys t
   build_any_order t = rw (build_is kind gamma xs t, build_is kind gamma ys t, same_length s) (go (build_checks gamma (length ys) (length t.collide) (length t.rest)))
     where
-      go : (m : Made) → after_checks m kind gamma xs t ≡ after_checks m kind gamma ys t
-      go (Refused r) = refl
-      go Done =
+      go : (m : Result Unit Refusal) → after_checks m kind gamma xs t ≡ after_checks m kind gamma ys t
+      go (Err r) = refl
+      go (Ok tt) =
           same_ended t (run (rule_of kind gamma) (room_of (length t.words) (length t.samples)) xs level_limit)
           ∙ ap (λ (f : ℕ → RunEnd). ended kind gamma ys t (f level_limit)) (same.runs (room_of (length t.words) (length t.samples)))
 
@@ -134,12 +134,12 @@ module _ (kind : Kind) (gamma : Float) (ids : List ℕ) {s t : Stores} (r : Same
   build_by_room : SameEnd (build_by kind gamma ids s) (build_by kind gamma ids t)
   build_by_room = rw (build_is kind gamma ids s, build_is kind gamma ids t, r.collide, r.rest) (go (checks_of gamma ids t) (checks_apart gamma (length ids) (length t.collide) (length t.rest)))
     where
-      go : (m : Made) → Apart m → SameEnd (after_checks m kind gamma ids s) (after_checks m kind gamma ids t)
-      go Done apart =
+      go : (m : Result Unit Refusal) → Apart m → SameEnd (after_checks m kind gamma ids s) (after_checks m kind gamma ids t)
+      go (Ok tt) apart =
           alike
           (room_ended (run (rule_of kind gamma) (room_in s) ids level_limit)
           ∙ ap₂ (λ (w v : ℕ). ended kind gamma ids t (run (rule_of kind gamma) (room_of w v) ids level_limit)) r.words r.samples)
-      go (Refused why) apart = record {
+      go (Err why) apart = record {
         refusal = refl;
         value = refl;
         head = refl;

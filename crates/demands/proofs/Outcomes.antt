@@ -6,8 +6,7 @@ use Prim.Native.Nat.{ℕ}
 use native.Mathlib.Omega.{arith}
 use lib.Dec.{leb}
 use lib.Ieee.{Float}
-use Rattle.refusal.specs.declared.Made.{Made}
-use Rattle.refusal.specs.declared.Made.TheVariants.{Done, Refused}
+use Rattle.std.specs.Prelude.{Result, Ok, Err}
 use Rattle.bounds.specs.Bounds.{max_ids, level_limit}
 use Rattle.demands.specs.Demands.{build_by, checks_of, room_in, of_run, Outcomes}
 use Rattle.laws.specs.Bits.{words_for}
@@ -28,10 +27,10 @@ use Rattle.sizes.specs.Sizes.{size_for}
 -- ---- the checks give no number of the run's
 
 -- a check's answer that is no refusal, or one with none of the run's numbers
-abbrev pub Apart : Made → Type 0
-Apart m = (why : Refusal) → m ≡ Refused why → of_run (number_of why) ≡ false
+abbrev pub Apart : Result Unit Refusal → Type 0
+Apart m = (why : Refusal) → m ≡ Err why → of_run (number_of why) ≡ false
 
-check-apart : (test : Bool) (reason : Refusal) (next : Made) → of_run (number_of reason) ≡ false → Apart next → Apart (check test reason Refused next)
+check-apart : (test : Bool) (reason : Refusal) (next : Result Unit Refusal) → of_run (number_of reason) ≡ false → Apart next → Apart (check test reason Err next)
 check-apart true reason next h rest why e = rest why e
 check-apart false reason next h rest why e =
     let z : reason ≡ why = cc in
@@ -44,10 +43,10 @@ checks_apart gamma n collide rest =
     check-apart (above_min gamma) GammaTooSmall _ refl
     (check-apart (not (above_max gamma)) GammaTooLarge _ refl
     (check-apart (leb n max_ids) TooManyIds _ refl
-    (check-apart (leb n rest && leb (words_for (size_for gamma n)) collide) ShortWorkStore Done refl
+    (check-apart (leb n rest && leb (words_for (size_for gamma n)) collide) ShortWorkStore (Ok tt) refl
     no_more)))
   where
-    no_more : Apart Done
+    no_more : Apart (Ok tt)
     no_more why e = let z : ◌≡◌ {A = ℕ} 0 1 = cc in absurd (omega arith)
 
 module _ (kind : Kind) (gamma : Float) (ids : List ℕ) (s : Stores) where
@@ -71,20 +70,20 @@ module _ (kind : Kind) (gamma : Float) (ids : List ℕ) (s : Stores) where
     of_check = λ h. rw build_is (kept (checks_of gamma ids s) (rw build_is at h));
   }
     where
-      passed : (m : Made) → checks_of gamma ids s ≡ m → of_run (after_checks m kind gamma ids s).refusal ≡ true → m ≡ Done
-      passed Done e h = refl
-      passed (Refused why) e h =
+      passed : (m : Result Unit Refusal) → checks_of gamma ids s ≡ m → of_run (after_checks m kind gamma ids s).refusal ≡ true → m ≡ Ok tt
+      passed (Ok tt) e h = refl
+      passed (Err why) e h =
           let k = checks_apart gamma _ _ _ why e in
           let z : ◌≡◌ {A = ℕ} 0 1 = cc in
           absurd (omega arith)
 
-      kept : (m : Made) → of_run (after_checks m kind gamma ids s).refusal ≡ false
+      kept : (m : Result Unit Refusal) → of_run (after_checks m kind gamma ids s).refusal ≡ false
           → ((after_checks m kind gamma ids s).after.head ≡ no_head) × ((after_checks m kind gamma ids s).after.stores ≡ s)
-      kept Done h =
+      kept (Ok tt) h =
           let k = run-number (run (rule_of kind gamma) (room_in s) ids level_limit) in
           let z : ◌≡◌ {A = ℕ} 0 1 = cc in
           absurd (omega arith)
-      kept (Refused why) h = (refl, refl)
+      kept (Err why) h = (refl, refl)
 
   -- so what has such a number is the run's
   pub by_run : of_run (build_by kind gamma ids s).refusal ≡ true → build_by kind gamma ids s ≡ ended kind gamma ids s (run (rule_of kind gamma) (room_in s) ids level_limit)
@@ -92,13 +91,13 @@ module _ (kind : Kind) (gamma : Float) (ids : List ℕ) (s : Stores) where
 
   -- ---- the run's outcome, by what the build leaves
 
-  module _ (head : Head) (t : Stores) where
-    pub was_5 : (o : RunEnd) (i : ℕ) → ended kind gamma ids s o ≡ built_of (Refused (NoRoomForLevel i)) head t → o ≡ no_room i
+  module _ (t : Stores) where
+    pub was_5 : (o : RunEnd) (i : ℕ) → ended kind gamma ids s o ≡ built_of (Err (NoRoomForLevel i)) t → o ≡ no_room i
     was_5 (built n) i e = absurd (omega (arith, ap (λ (x : BuildEnd). x.refusal) e))
     was_5 (no_room j) i e = ap (λ (x : BuildEnd). no_room x.value) e
     was_5 (ids_left n) i e = absurd (omega (arith, ap (λ (x : BuildEnd). x.refusal) e))
 
-    pub was_6 : (o : RunEnd) (n : ℕ) → ended kind gamma ids s o ≡ built_of (Refused (IdsRemain n)) head t → o ≡ ids_left n
+    pub was_6 : (o : RunEnd) (n : ℕ) → ended kind gamma ids s o ≡ built_of (Err (IdsRemain n)) t → o ≡ ids_left n
     was_6 (built m) n e = absurd (omega (arith, ap (λ (x : BuildEnd). x.refusal) e))
     was_6 (no_room i) n e = absurd (omega (arith, ap (λ (x : BuildEnd). x.refusal) e))
     was_6 (ids_left m) n e = ap (λ (x : BuildEnd). ids_left x.value) e

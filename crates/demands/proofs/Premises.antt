@@ -7,7 +7,8 @@ use native.Mathlib.Omega.{arith}
 use lib.Dec.{lit<, lit≤}
 use lib.Ieee.{Float, of_bits, lt}
 use lib.ListN.{length, take, replicate, length-replicate}
-use Rattle.refusal.specs.declared.Made.TheVariants.{Done}
+use Rattle.std.specs.Prelude.{Option, Some, Result, Ok}
+use Rattle.refusal.specs.declared.Refusal.{Refusal}
 use Rattle.demands.specs.Demands.{build_by, checks_of, of_run, InBounds, RoomEnough, listed_as, Indexed, SameRoom, SameEnd}
 use Rattle.demands.specs.Rooms.{EndsAs, with_stores, cut}
 use Rattle.demands.specs.Levels.{EachLevelLeft, FromWords}
@@ -34,8 +35,6 @@ use Rattle.head.specs.Layout.{bounded, fit}
 use Rattle.finding.specs.Find.{found, nothing, answer_of, row_answer, find_in, refused_for}
 use Rattle.lookup.specs.Lookup.{lookup_call}
 use Rattle.rows.specs.Rows.{rows_call}
-use Rattle.finding.specs.declared.Found.{Found}
-use Rattle.finding.specs.declared.Found.TheVariants.{Row}
 use Rattle.finding.specs.declared.Place.{Place}
 use Rattle.ranks.specs.Ranks.{first_samples, ones_from}
 use Rattle.refusal.specs.declared.Refusal.TheVariants.{NoRoomForLevel, IdsRemain, UnfitHead}
@@ -114,15 +113,15 @@ tight_more =
     (more_room Plain gamma pair tight room).ends_as b pair_bounds (record { words = lit≤ tt; samples = lit≤ tt }) (refusals Plain gamma pair tight tight_room b).never_5
 
 -- and returned as the promise of `build` says
-promised : built_of Done end.after.head end.after.stores ≡ build_by Plain gamma pair room
+promised : built_of (Ok end.after.head) end.after.stores ≡ build_by Plain gamma pair room
 unfolding lt of_bits size_for whole_of rounded kind_of build_call build_checks run_from remaining position mixed
 promised = refl
 
-index : Indexed pair (built_of Done end.after.head end.after.stores)
+index : Indexed pair (built_of (Ok end.after.head) end.after.stores)
 index = returned Plain gamma pair room end.after.head end.after.stores promised
 
 -- with rows for both: a lookup that meets its promise there says more than row 0 or none
-two_rows : (f : ℕ → Found) → ((x : ℕ) → answer_of (f x) ≡ lookup_call end.after.head end.after.stores.words end.after.stores.samples x)
+two_rows : (f : ℕ → Result (Option Place) Refusal) → ((x : ℕ) → answer_of (f x) ≡ lookup_call end.after.head end.after.stores.words end.after.stores.samples x)
     → ((x : ℕ) (p : Place) → f x ≡ Row p → p.row ≡ 0) → ⊥
 two_rows f meets = not_all_first Plain gamma pair room end.after.head end.after.stores promised f meets 5 7 (lit< tt) (lit< tt) (λ e. omega arith)
 
@@ -167,7 +166,7 @@ kept : (build_by Plain gamma double short).after.stores ≡ short
 kept = ((outcomes Plain gamma double short).of_check (ap of_run refused_4)).1
 
 -- the run's outcomes come where the checks are passed
-ran : checks_of gamma double less ≡ Done
+ran : checks_of gamma double less ≡ Ok tt
 ran = (outcomes Plain gamma double less).of_run_lem.0 (ap (λ (x : BuildEnd). of_run x.refusal) refused_5)
 
 -- ---- the other order, in stores that held something

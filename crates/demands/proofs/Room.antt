@@ -8,7 +8,7 @@ use native.Mathlib.Omega.{arith}
 use lib.Dec.{lit<}
 use lib.Ieee.{Float}
 use lib.ListN.{length}
-use Rattle.refusal.specs.declared.Made.TheVariants.{Done}
+use Rattle.std.specs.Prelude.{Ok}
 use Rattle.bounds.specs.Bounds.{max_ids, max_bits, level_limit}
 use Rattle.demands.specs.Demands.{build_by, checks_of, room_in, of_run, InBounds, RoomEnough, FullRoom, left_over, Refusals, ComesTo, room_for, Endings}
 use Rattle.demands.proofs.Outcomes.{outcomes, was_5, was_6}
@@ -52,7 +52,7 @@ module _ (kind : Kind) (gamma : Float) (ids : List ℕ) (s : Stores) where
 
   -- ---- the run
 
-  in_bounds : checks_of gamma ids s ≡ Done → InBounds gamma ids s
+  in_bounds : checks_of gamma ids s ≡ Ok tt → InBounds gamma ids s
   in_bounds e =
       let p = passed gamma (length ids) (length s.collide) (length s.rest) e in
       record { allowed = p.allowed; few_ids = p.few_ids; rest_long = p.in_rest; collide_long = p.in_collide }
@@ -105,11 +105,11 @@ module _ (kind : Kind) (gamma : Float) (ids : List ℕ) (s : Stores) where
             (ap (λ (x : BuildEnd). x.refusal) e, ap (λ (x : BuildEnd). x.after.head.levels) e),
       );
       as_5 = λ i. (
-        λ e. full_known rule room ids level_limit i (was_5 kind gamma ids s no_head (cleared s) outcome i (sym (build_runs b) ∙ e)),
+        λ e. full_known rule room ids level_limit i (was_5 kind gamma ids s (cleared s) outcome i (sym (build_runs b) ∙ e)),
         λ t. leaves (out_of_room i t.0 t.1 t.2 refl),
       );
       as_6 = λ n. (
-        λ e. remaining_known rule room ids level_limit n (was_6 kind gamma ids s no_head (cleared s) outcome n (sym (build_runs b) ∙ e)),
+        λ e. remaining_known rule room ids level_limit n (was_6 kind gamma ids s (cleared s) outcome n (sym (build_runs b) ∙ e)),
         λ t. leaves (at_limit t.0 (ap ids_left (sym t.1))),
       );
     }

@@ -8,9 +8,9 @@ use native.Mathlib.Omega.{arith}
 use lib.Dec.{lit<}
 use lib.Ieee.{Float}
 use lib.ListN.{length, get_or}
+use Rattle.std.specs.Prelude.{Option, Some, Result, Ok, Err}
 use Rattle.refusal.specs.declared.Refusal.{Refusal}
 use Rattle.refusal.specs.declared.Refusal.TheVariants.{NoRoomForLevel, IdsRemain}
-use Rattle.refusal.specs.declared.Made.TheVariants as M
 use Rattle.laws.specs.Counting.{one, count}
 use Rattle.laws.specs.Bits.{bit_at, has}
 use Rattle.mixer.specs.Mixer.{mixed}
@@ -24,9 +24,6 @@ use Rattle.head.specs.Index.{no_head}
 use Rattle.finding.specs.Find.{found, answer_of}
 use Rattle.lookup.specs.Lookup.{lookup_call}
 use Rattle.head.specs.declared.Head.{Head}
-use Rattle.head.specs.declared.Headed.{Headed}
-use Rattle.finding.specs.declared.Found.{Found}
-use Rattle.finding.specs.declared.Found.TheVariants as F
 use Rattle.finding.specs.declared.Place.{Place}
 use Rattle.demands.specs.Demands.{build_by}
 use Rattle.demands.specs.Inputs.{two, three, lent_three, three_built, three_left, refused_with}
@@ -38,22 +35,23 @@ use Rattle.demands.proofs.Twice.{twice_left, twice_full}
 
 -- ---- builds, at three ids of which two share their position in level 0
 
-module _ (a : Headed) (t : Stores) (meets : built_of a.outcome a.head t ≡ build_call 0 two three lent_three) where
+module _ (a : Result Head Refusal) (t : Stores) (meets : built_of a t ≡ build_call 0 two three lent_three) where
   -- the whole outcome is decided
   pub three_only : (a ≡ three_built) × (t ≡ three_left)
   three_only = build_once 0 two three lent_three a three_built t three_left meets three_built_lem
 
   -- a build that only refuses
-  pub not_refused : (r : Refusal) → a.outcome ≡ M.Refused r → ⊥
+  pub not_refused : (r : Refusal) → a ≡ Err r → ⊥
   not_refused r e =
       let d = three_only.0 in
       let z : ◌≡◌ {A = ℕ} 0 1 = cc in
       omega arith
 
   -- one that returns an empty head
-  pub not_empty : a.head ≡ no_head → ⊥
+  pub not_empty : a ≡ Ok no_head → ⊥
   not_empty e =
-      let z : ◌≡◌ {A = ℕ} 0 3 = sym (ap (λ (h : Head). h.count) e) ∙ ap (λ (b : Headed). b.head.count) three_only.0 in
+      let d = three_only.0 in
+      let z : ◌≡◌ {A = ℕ} 0 3 = cc in
       omega arith
 
   -- one that writes nothing
@@ -72,7 +70,7 @@ module _ (a : Headed) (t : Stores) (meets : built_of a.outcome a.head t ≡ buil
 -- ---- builds, at any id given twice
 
 module _ (kind : Kind) (x : ℕ) (s : Stores) (in_collide : 4 ≤ length s.collide) (in_rest : 2 ≤ length s.rest) (in_samples : length s.samples ≡ 100) where
-  module _ (a : Headed) (t : Stores) (meets : built_of a.outcome a.head t ≡ build_by kind two (x ∷ x ∷ []) s) where
+  module _ (a : Result Head Refusal) (t : Stores) (meets : built_of a t ≡ build_by kind two (x ∷ x ∷ []) s) where
     -- the whole outcome is decided, in 399 words and in 400
     pub full_only : length s.words ≡ 399 → (a ≡ refused_with (NoRoomForLevel 99)) × (t ≡ cleared s)
     full_only h = build_once (kind_number kind) two (x ∷ x ∷ []) s a (refused_with (NoRoomForLevel 99)) t (cleared s) meets (sym (twice_full kind x s in_collide in_rest h in_samples))
@@ -81,24 +79,24 @@ module _ (kind : Kind) (x : ℕ) (s : Stores) (in_collide : 4 ≤ length s.colli
     left_only h = build_once (kind_number kind) two (x ∷ x ∷ []) s a (refused_with (IdsRemain 2)) t (cleared s) meets (sym (twice_left kind x s in_collide in_rest h in_samples))
 
     -- a build that makes up the level in refusal 5
-    pub not_other_level : length s.words ≡ 399 → (i : ℕ) → a.outcome ≡ M.Refused (NoRoomForLevel i) → i ≡ 99
+    pub not_other_level : length s.words ≡ 399 → (i : ℕ) → a ≡ Err (NoRoomForLevel i) → i ≡ 99
     not_other_level h i e =
         let d = (full_only h).0 in
         cc
 
     -- one that makes up how many ids remain in refusal 6
-    pub not_other_count : length s.words ≡ 400 → (n : ℕ) → a.outcome ≡ M.Refused (IdsRemain n) → n ≡ 2
+    pub not_other_count : length s.words ≡ 400 → (n : ℕ) → a ≡ Err (IdsRemain n) → n ≡ 2
     not_other_count h n e =
         let d = (left_only h).0 in
         cc
 
 -- ---- lookups, in the index of any accepted build
 
-module _ (kind : Kind) (gamma : Float) (ids : List ℕ) (s : Stores) (head : Head) (t : Stores) (built : built_of M.Done head t ≡ build_by kind gamma ids s) where
-  module _ (f : ℕ → Found) (meets : (x : ℕ) → answer_of (f x) ≡ lookup_call head t.words t.samples x) where
+module _ (kind : Kind) (gamma : Float) (ids : List ℕ) (s : Stores) (head : Head) (t : Stores) (built : built_of (Ok head) t ≡ build_by kind gamma ids s) where
+  module _ (f : ℕ → Result (Option Place) Refusal) (meets : (x : ℕ) → answer_of (f x) ≡ lookup_call head t.words t.samples x) where
     module _ (x y : ℕ) (x-id : 0 < count x ids) (y-id : 0 < count y ids) (differ : x ≡ y → ⊥) where
       -- one that says one row or none, whatever row it is: two different ids have different rows
-      pub not_one_row : (k : ℕ) → ((z : ℕ) (p : Place) → f z ≡ F.Row p → p.row ≡ k) → ⊥
+      pub not_one_row : (k : ℕ) → ((z : ℕ) (p : Place) → f z ≡ Ok (Some p) → p.row ≡ k) → ⊥
       not_one_row k says =
           let l = (returned kind gamma ids s head t built).lookups in
           let u = l.id_row x x-id in
@@ -108,8 +106,8 @@ module _ (kind : Kind) (gamma : Float) (ids : List ℕ) (s : Stores) (head : Hea
           told : (z : ℕ) (u : R.RowPlace) → lookup_call head t.words t.samples z ≡ found u → u.row ≡ k
           told z u e =
               let p : Place = record { row = u.row; level = u.level; position = u.position } in
-              says z p (lookup_once head t.words t.samples z (f z) (F.Row p) (meets z) (sym e))
+              says z p (lookup_once head t.words t.samples z (f z) (Ok (Some p)) (meets z) (sym e))
 
       -- one that always says row 0 or none
-      pub not_all_first : ((z : ℕ) (p : Place) → f z ≡ F.Row p → p.row ≡ 0) → ⊥
+      pub not_all_first : ((z : ℕ) (p : Place) → f z ≡ Ok (Some p) → p.row ≡ 0) → ⊥
       not_all_first = not_one_row 0

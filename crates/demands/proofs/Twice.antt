@@ -10,7 +10,7 @@ use lib.Ieee.{of_bits, lt}
 use lib.ListN.{length}
 use borrow.Author.Tests.{eq-eqb}
 use Rattle.bounds.specs.Bounds.{level_limit}
-use Rattle.refusal.specs.declared.Made.TheVariants.{Done}
+use Rattle.std.specs.Prelude.{Ok}
 use Rattle.refusal.specs.declared.Refusal.TheVariants.{NoRoomForLevel, IdsRemain}
 use Rattle.rule.specs.Rule.{Rule, remaining, span, start, Room, fits, ids_left}
 use Rattle.rule.specs.Demand.{Reaches, out_of_room, at_limit}
@@ -74,7 +74,7 @@ module _ (kind : Kind) (x : ℕ) (s : Stores) where
   full i h = words_short rule room ids i (omega (arith, words_taken i))
 
   module _ (in_collide : 4 ≤ length s.collide) (in_rest : 2 ≤ length s.rest) where
-    passes : Done ≡ build_checks two 2 (length s.collide) (length s.rest)
+    passes : Ok tt ≡ build_checks two 2 (length s.collide) (length s.rest)
     unfolding lt of_bits size_for whole_of rounded
     passes = checked two 2 (length s.collide) (length s.rest) refl refl (lit≤ tt) in_rest in_collide
 

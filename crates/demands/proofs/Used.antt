@@ -19,7 +19,7 @@ use Rattle.laws.proofs.Parts.{length_part}
 use Rattle.laws.proofs.Sums.{sum_mono}
 use Rattle.mixer.specs.Kinds.{kind_of}
 use Rattle.head.specs.KindCheck.{check_kind}
-use Rattle.mixer.specs.declared.KindOf.TheVariants.{Known}
+use Rattle.std.specs.Prelude.{Ok}
 use Rattle.mixer.proofs.KindNumbers.{number_known, number_or_not}
 use Rattle.head.specs.Index.{positions}
 use Rattle.build.specs.Build.{BuildEnd}
@@ -139,7 +139,7 @@ module _ {ids : List ℕ} {end : BuildEnd} (index : Indexed ids end) where
         | inr u ↦ absurd (never_refused index 0 UnknownKind (lookup_unknown end.after.head end.after.stores.words end.after.stores.samples 0 u))
       ]
     where
-      go : (kind : Kind) → kind_of end.after.head.kind ≡ Known kind → (b : Bool) → fits ≡ b → b ≡ true
+      go : (kind : Kind) → kind_of end.after.head.kind ≡ Ok kind → (b : Bool) → fits ≡ b → b ≡ true
       go kind k true e = refl
       go kind k false e = absurd (never_refused index 0 UnfitHead (lookup_unfit end.after.head end.after.stores.words end.after.stores.samples 0 kind k e))
 

@@ -1,10 +1,9 @@
 -- What a user can rely on, said of the public calls as they are promised: `build_call`, `lookup_call` and `rows_call` are the answers and stores that `build`,
 -- `lookup` and `rows` leave. Of builds it speaks for known kinds, of one at a time: nothing is said between indexes of different kinds. An id is a number that
 -- stands in ids: `0 < count x ids`; `Same` lists hold the same ids, each as often, in any order.
-use Rattle.std.specs.Prelude.{◌≡◌, ◌↔◌, ◌⊎◌, Bool, true, false, ◌||◌, List, [], ◌++◌, ℕ, suc, ◌*◌, ◌≤◌, ◌<◌, eqb, Float, length, get_or, drop}
+use Rattle.std.specs.Prelude.{◌≡◌, ◌↔◌, ◌⊎◌, Bool, true, false, ◌||◌, List, [], ◌++◌, ℕ, suc, ◌*◌, ◌≤◌, ◌<◌, eqb, Float, Result, Ok, length, get_or, drop}
 use Rattle.refusal.specs.Answers.{Outcome, answered, refused}
-use Rattle.refusal.specs.declared.Made.{Made}
-use Rattle.refusal.specs.declared.Made.TheVariants.{Done}
+use Rattle.refusal.specs.declared.Refusal.{Refusal}
 use Rattle.bounds.specs.Bounds.{max_ids, level_limit}
 use Rattle.laws.specs.Counting.{count, Same}
 use Rattle.laws.specs.Bits.{words_for}
@@ -44,7 +43,7 @@ KindOrNone number = ((kind : Kind) × (number ≡ kind_number kind)) ⊎ NoKind 
 -- ---- what comes of the run, and what of the checks before it
 
 -- the checks of a build past that of its kind
-abbrev pub checks_of : Float → List ℕ → Stores → Made
+abbrev pub checks_of : Float → List ℕ → Stores → Result Unit Refusal
 checks_of gamma ids s = build_checks gamma (length ids) (length s.collide) (length s.rest)
 
 -- the room that the stores have
@@ -58,9 +57,9 @@ of_run refusal = eqb refusal 0 || eqb refusal 5 || eqb refusal 6
 -- Where the outcome of a build comes from.
 pub record Outcomes (kind : Kind) (gamma : Float) (ids : List ℕ) (s : Stores) : Type 0 where
   -- 0, 5 or 6 is given exactly if the checks are passed,
-  pub of_run_lem : (of_run (build_by kind gamma ids s).refusal ≡ true) ↔ (checks_of gamma ids s ≡ Done)
+  pub of_run_lem : (of_run (build_by kind gamma ids s).refusal ≡ true) ↔ (checks_of gamma ids s ≡ Ok tt)
   -- and then it is what the run comes to
-  pub as_run : checks_of gamma ids s ≡ Done → build_by kind gamma ids s ≡ ended kind gamma ids s (run (rule_of kind gamma) (room_in s) ids level_limit)
+  pub as_run : checks_of gamma ids s ≡ Ok tt → build_by kind gamma ids s ≡ ended kind gamma ids s (run (rule_of kind gamma) (room_in s) ids level_limit)
   -- every other refusal leaves a head of 0, and the stores as they were
   pub of_check : of_run (build_by kind gamma ids s).refusal ≡ false → ((build_by kind gamma ids s).after.head ≡ no_head) × ((build_by kind gamma ids s).after.stores ≡ s)
 

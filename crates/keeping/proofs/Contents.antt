@@ -16,7 +16,7 @@ use Rattle.laws.proofs.Chains.{each_at, each_same, each_split, each_part, length
 use Rattle.laws.proofs.Clear.{clear_known}
 use Rattle.laws.proofs.Lists.{words_append, words_cons}
 use Rattle.mixer.specs.declared.Kind.{Kind}
-use Rattle.mixer.specs.declared.KindOf.TheVariants.{Known}
+use Rattle.std.specs.Prelude.{Ok}
 use Rattle.mixer.specs.Kinds.{kind_of}
 use Rattle.mixer.proofs.KindNumbers.{known_word}
 use Rattle.head.specs.declared.Head.{Head}
@@ -34,7 +34,7 @@ use Rattle.image.proofs.ReadCalls.{Passed}
 pub record Kept (head : Head) (ws ss : List ℕ) : Type 0 where
   pub all_sizes : length head.sizes ≡ head_sizes
   pub kind : Kind
-  pub known : Known kind ≡ kind_of head.kind
+  pub known : Ok kind ≡ kind_of head.kind
   pub bounds : bounded head.count head.levels head.sizes ≡ true
   pub unused : unused_clear head.levels head.sizes ≡ true
   pub all_words : length ws ≡ used_words head

@@ -6,7 +6,7 @@ use lib.Dec.{lit<}
 use Rattle.laws.proofs.Chains.{each_at}
 use Rattle.mixer.specs.Kinds.{kind_number, kind_of}
 use Rattle.mixer.specs.declared.Kind.TheVariants.{Plain}
-use Rattle.mixer.specs.declared.KindOf.TheVariants.{Unknown}
+use Rattle.std.specs.Prelude.{Err}
 use Rattle.head.specs.Numbers.{head_numbers}
 use Rattle.block.specs.Block.{content_at}
 use Rattle.image.specs.Image.{form, older_form, is_form, head_place, form_in, head_in, read_call}
@@ -21,7 +21,7 @@ module _ (image : List ℕ) where
   pub older_plain : form_in image ≡ older_form → (head_in image).kind ≡ kind_number Plain
   older_plain e = rw e
 
-pub no_kind_kept : (number : ℕ) → kind_of number ≡ Unknown → NoKindKept number
+pub no_kind_kept : (number : ℕ) → kind_of number ≡ Err UnknownKind → NoKindKept number
 unfolding read_call
 no_kind_kept number u = record {
   write = λ head ws ss store e. sym (write_unknown head ws ss store (sym (ap kind_of e ∙ u)));

@@ -22,7 +22,7 @@ use Rattle.block.specs.Differ.{DifferOnce}
 use Rattle.block.proofs.Whole.{bytes_small}
 use Rattle.image.specs.Image.{ReadAfter, read_after, read_call}
 use Rattle.keeping.specs.Images.{Lent, ReadsBack, Again, with_word, ChangeFound}
-use Rattle.demands.specs.Inputs.{three_built, three_left}
+use Rattle.demands.specs.Inputs.{three_head, three_left}
 use Rattle.keeping.specs.Inputs.{three_image, older_three}
 use Rattle.keeping.proofs.Images.{images}
 use Rattle.keeping.proofs.ImageTable.{three_written, three_read_lem, older_read, older_again}
@@ -43,15 +43,15 @@ words = three_left.words ++ (7 ∷ [])
 abbrev samples : List ℕ
 samples = three_left.samples ++ (7 ∷ [])
 
-lent : Lent three_built.head words samples
+lent : Lent three_head words samples
 lent = record { all_sizes = refl; words = are_words_lem words refl; samples = are_words_lem samples refl }
 
-held : ReadsBack three_built.head words samples (all_bytes three_image)
+held : ReadsBack three_head words samples (all_bytes three_image)
 unfolding all_bytes
-held = rw three_written at (images.written three_built.head words samples (replicate 1_026 9) lent (ap (λ (w : Outcome (List ℕ)). w.refusal) three_written))
+held = rw three_written at (images.written three_head words samples (replicate 1_026 9) lent (ap (λ (w : Outcome (List ℕ)). w.refusal) three_written))
 
 with_room : read_call (all_bytes three_image) (replicate 9 9) (replicate 3 9)
-    ≡ answered 0 (read_after three_built.head (filled three_left.words 9) (filled three_left.samples 3))
+    ≡ answered 0 (read_after three_head (filled three_left.words 9) (filled three_left.samples 3))
 with_room = held.with_room (replicate 9 9) (replicate 3 9) (lit≤ tt) (lit≤ tt)
 
 no_room : read_call (all_bytes three_image) (replicate 7 9) (replicate 3 9) ≡ refused (read_after no_head (replicate 7 9) (replicate 3 9)) ShortOutput

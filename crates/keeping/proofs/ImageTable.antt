@@ -17,38 +17,38 @@ use Rattle.head.specs.Layout.{bounded, fit}
 use Rattle.block.specs.Bytes.{all_bytes, word_at}
 use Rattle.block.specs.Block.{check_from, image_words, is_good, first_bad, content_at}
 use Rattle.image.specs.Image.{content_of, image_of, write_call, holds_index, ReadAfter, read_after, read_call, block_checks}
-use Rattle.demands.specs.Inputs.{three_built, three_left, none_built, none_left, one_built, one_left}
+use Rattle.demands.specs.Inputs.{three_head, three_left, none_head, none_left, one_head, one_left}
 use Rattle.keeping.specs.Images.{image_read}
 use Rattle.keeping.specs.Inputs.{block, none_image, one_image, three_image, older_three}
 
 -- ---- written to a store of two blocks
 
-pub none_written : write_call none_built.head none_left.words none_left.samples (zeros 1_024) ≡ answered 2 (all_bytes none_image)
+pub none_written : write_call none_head none_left.words none_left.samples (zeros 1_024) ≡ answered 2 (all_bytes none_image)
 unfolding write_call kind_of fit bounded is_clear image_of all_bytes image_words content_of each check_from mixed
 none_written = refl
 
-pub one_written : write_call one_built.head one_left.words one_left.samples (zeros 1_024) ≡ answered 2 (all_bytes one_image)
+pub one_written : write_call one_head one_left.words one_left.samples (zeros 1_024) ≡ answered 2 (all_bytes one_image)
 unfolding write_call kind_of fit bounded is_clear image_of all_bytes image_words content_of each check_from mixed
 one_written = refl
 
 -- and what is past them stays, in the index's stores and in the image's
-pub three_written : write_call three_built.head (three_left.words ++ (7 ∷ [])) (three_left.samples ++ (7 ∷ [])) (replicate 1_026 9)
+pub three_written : write_call three_head (three_left.words ++ (7 ∷ [])) (three_left.samples ++ (7 ∷ [])) (replicate 1_026 9)
     ≡ answered 2 (all_bytes three_image ++ (9 ∷ 9 ∷ []))
 unfolding write_call kind_of fit bounded is_clear image_of all_bytes image_words content_of each check_from mixed
 three_written = refl
 
 -- ---- read into stores of 9, one longer than is used
 
-pub none_read : read_call (all_bytes none_image) (replicate 5 9) (replicate 2 9) ≡ answered 0 (read_after none_built.head (zeros 5) (zeros 2))
+pub none_read : read_call (all_bytes none_image) (replicate 5 9) (replicate 2 9) ≡ answered 0 (read_after none_head (zeros 5) (zeros 2))
 unfolding read_call kind_of block_checks first_bad is_good word_at content_at holds_index bounded is_clear all_bytes each check_from mixed
 none_read = refl
 
-pub one_read : read_call (all_bytes one_image) (replicate 5 9) (replicate 2 9) ≡ answered 0 (read_after one_built.head (filled one_left.words 5) (zeros 2))
+pub one_read : read_call (all_bytes one_image) (replicate 5 9) (replicate 2 9) ≡ answered 0 (read_after one_head (filled one_left.words 5) (zeros 2))
 unfolding read_call kind_of block_checks first_bad is_good word_at content_at holds_index bounded is_clear all_bytes each check_from mixed
 one_read = refl
 
 abbrev three_read : Outcome ReadAfter
-three_read = answered 0 (read_after three_built.head (filled three_left.words 9) (filled three_left.samples 3))
+three_read = answered 0 (read_after three_head (filled three_left.words 9) (filled three_left.samples 3))
 
 pub three_read_lem : read_call (all_bytes three_image) (replicate 9 9) (replicate 3 9) ≡ three_read
 unfolding read_call kind_of block_checks first_bad is_good word_at content_at holds_index bounded is_clear all_bytes each check_from mixed

@@ -17,11 +17,9 @@ use Rattle.laws.proofs.Cases.{both}
 use Rattle.laws.proofs.Clear.{is_clear_lem}
 use Rattle.laws.proofs.Lists.{words_each, words_take}
 use Rattle.mixer.specs.declared.Kind.{Kind}
-use Rattle.mixer.specs.declared.KindOf.TheVariants.{Known}
+use Rattle.std.specs.Prelude.{Result, Ok, Err}
 use Rattle.mixer.specs.Kinds.{kind_of}
 use Rattle.refusal.specs.Answers.{Outcome, answered, refused, check}
-use Rattle.refusal.specs.declared.Made.{Made}
-use Rattle.refusal.specs.declared.Made.TheVariants.{Done, Refused}
 use Rattle.refusal.specs.declared.Refusal.TheVariants.{UnfitHead, ShortOutput, BadBlock, UnfitContent}
 use Rattle.refusal.proofs.Apart.{not_none}
 use Rattle.head.specs.declared.Head.{Head}
@@ -98,7 +96,7 @@ module _ (head : Head) (words samples : List ℕ) where
     few = few_blocks head words samples kept
 
     -- all blocks are good,
-    good : Done ≡ block_checks bytes
+    good : Ok tt ≡ block_checks bytes
     good =
         good_blocks bytes (omega (arith, long)) (omega (arith, long)) (bad_block bytes) refl
         (ap (first_bad bytes) blocks_are ∙ none_bad bytes n (all_good content n small few) ∙ sym blocks_are)
@@ -144,7 +142,7 @@ module _ (head : Head) (words samples : List ℕ) where
 -- What is known of it.
 record Written (head : Head) (ws ss store : List ℕ) : Type 0 where
   pub kind : Kind
-  pub known : Known kind ≡ kind_of head.kind
+  pub known : Ok kind ≡ kind_of head.kind
   pub fits : Fit head.count head.levels head.sizes (length ws) (length ss)
   pub unused : unused_clear head.levels head.sizes ≡ true
   pub left : write_call head ws ss store ≡ answered (image_blocks form (used_by head)) (fronted (image_of head ws ss) store)
@@ -206,9 +204,9 @@ record Accepted (image us vs : List ℕ) : Type 0 where
   pub sample_room : used_samples (head_in image) ≤ length vs
   pub left : read_call image us vs ≡ answered 0 (read_after (head_in image) (filled (words_in image) (length us)) (filled (samples_in image) (length vs)))
 
-blocks_done : (checked : Made) (image us vs : List ℕ) → (after_blocks checked image us vs).refusal ≡ 0 → checked ≡ Done
-blocks_done (Refused why) image us vs e = absurd (not_none why e)
-blocks_done Done image us vs e = refl
+blocks_done : (checked : Result Unit Refusal) (image us vs : List ℕ) → (after_blocks checked image us vs).refusal ≡ 0 → checked ≡ Ok tt
+blocks_done (Err why) image us vs e = absurd (not_none why e)
+blocks_done (Ok tt) image us vs e = refl
 
 accepted_known : (image us vs : List ℕ) → (read_call image us vs).refusal ≡ 0 → Accepted image us vs
 unfolding read_call

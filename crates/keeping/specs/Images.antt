@@ -1,15 +1,13 @@
 -- What a user can rely on of images, said of the calls as they are promised: `write_call` and `read_call` are the answers and stores that `write` and `read`
 -- leave.
-use Rattle.std.specs.Prelude.{◌≡◌, ◌⊎◌, List, ℕ, ◌*◌, ◌/◌, ◌^◌, ◌≤◌, ◌<◌, length, take}
+use Rattle.std.specs.Prelude.{◌≡◌, ◌⊎◌, List, ℕ, ◌*◌, ◌/◌, ◌^◌, ◌≤◌, ◌<◌, Ok, Err, length, take}
 use Rattle.bounds.specs.Bounds.{head_sizes}
 use Rattle.laws.specs.Bits.{Words}
 use Rattle.laws.specs.Stores.{filled, fronted, pasted}
 use Rattle.refusal.specs.Answers.{Outcome, answered, refused}
-use Rattle.refusal.specs.declared.Made.TheVariants.{Done}
 use Rattle.refusal.specs.declared.Refusal.TheVariants.{ShortOutput, BadBlock, UnknownKind}
 use Rattle.mixer.specs.Kinds.{kind_number, kind_of}
 use Rattle.mixer.specs.declared.Kind.TheVariants.{Plain}
-use Rattle.mixer.specs.declared.KindOf.TheVariants.{Unknown}
 use Rattle.head.specs.declared.Head.{Head}
 use Rattle.head.specs.Index.{no_head}
 use Rattle.head.specs.Layout.{used_words, used_samples}
@@ -84,7 +82,7 @@ pub record NoKindKept (number : ℕ) : Type 0 where
   -- by the writer, whatever else is wrong
   pub write : (head : Head) (ws ss store : List ℕ) → head.kind ≡ number → write_call head ws ss store ≡ refused store UnknownKind
   -- by the reader where the blocks are good and the form has a kind, whatever else they hold
-  pub read : (image us vs : List ℕ) → block_checks image ≡ Done → form_in image ≡ form → content_at image head_place ≡ number
+  pub read : (image us vs : List ℕ) → block_checks image ≡ Ok tt → form_in image ≡ form → content_at image head_place ≡ number
       → read_call image us vs ≡ refused (read_after no_head us vs) UnknownKind
 
 -- ---- together
@@ -103,7 +101,7 @@ pub record Images : Type 0 where
   pub again : (image ws ss : List ℕ) → Bytes image → (read_call image ws ss).refusal ≡ 0 → Again image ws ss (image_read image ws ss)
   pub change_found : (image ws ss : List ℕ) → Bytes image → (read_call image ws ss).refusal ≡ 0 → ChangeFound image
   -- A number that no kind has is refused; in the older form every image is of the plain kind.
-  pub no_kind : (number : ℕ) → kind_of number ≡ Unknown → NoKindKept number
+  pub no_kind : (number : ℕ) → kind_of number ≡ Err UnknownKind → NoKindKept number
   pub older_plain : (image : List ℕ) → form_in image ≡ older_form → (head_in image).kind ≡ kind_number Plain
   -- Words that differ in exactly one place, such as words 0 to 62 of two blocks, have different checks.
   pub checks_differ : (us vs : List ℕ) → Words us → Words vs → DifferOnce us vs → check_of us ≡ check_of vs → ⊥
