@@ -10,25 +10,22 @@ use borrow.Author.Tests.{le-leb, lt-leb, eq-eqb, ne_eqb}
 use Rattle.laws.specs.Stores.{fronted}
 use Rattle.laws.proofs.Parts.{lent_from}
 use Rattle.refusal.specs.Table.{number_of}
+use Rattle.std.specs.Prelude.{Option, None, Some, Result, Ok, Err}
 use Rattle.refusal.specs.Answers.{Outcome, made, counted}
+use Rattle.refusal.specs.declared.Refusal.{Refusal}
 use Rattle.refusal.specs.declared.Refusal.TheVariants.{UnfitHead, ShortOutput}
-use Rattle.refusal.specs.declared.Made.{Made}
-use Rattle.refusal.specs.declared.Made.TheVariants as M
-use Rattle.refusal.specs.declared.Counted.{Counted}
 use Rattle.head.specs.declared.Head.{Head}
 use Rattle.head.specs.Numbers.{head_numbers, head_of, numbers_of}
 use Rattle.run.specs.Stores.{Stores}
 use Rattle.build.specs.Build.{BuildEnd, built_of, build_call}
 use Rattle.finding.specs.declared.Place.{Place}
-use Rattle.finding.specs.declared.Found.{Found}
-use Rattle.finding.specs.declared.Found.TheVariants as F
 use Rattle.finding.specs.Find.{Answer, answer_of}
 use Rattle.lookup.specs.Lookup.{lookup_call}
 use Rattle.rows.specs.Rows.{RowStores, row_stores, rows_call}
 use Rattle.image.specs.Image.{ReadAfter, read_of, write_call, read_call}
 use Rattle.host.specs.Numbers.{refused_number, of_made, of_counted, value_in}
-use Rattle.host.specs.Flat.{seen, out_places, place_places, answer_seen, flat_lookup, flat_rows, flat_built, end_seen, flat_build, flat_loaded, read_seen, flat_read, flat_write}
-use Rattle.host.proofs.Answers.{made-seen, counted-seen}
+use Rattle.host.specs.Flat.{seen, out_places, place_places, answer_seen, flat_lookup, flat_rows, flat_built, head_made, end_seen, flat_build, flat_loaded, read_seen, flat_read, flat_write}
+use Rattle.host.proofs.Answers.{told-seen}
 
 -- ---- a row list
 
@@ -38,10 +35,10 @@ module _ (head ws ss ids rows marks : List ℕ) where
   unfolding flat_rows
   rows_unheaded h e = rw (ne_eqb (length head) head_numbers h, e)
 
-  pub rows_headed : {n : ℕ} {after : RowStores} (answer : Made) → length head ≡ head_numbers → n ≡ of_made answer
+  pub rows_headed : {n : ℕ} {after : RowStores} (answer : Result Unit Refusal) → length head ≡ head_numbers → n ≡ of_made answer
       → made answer after ≡ rows_call (head_of head) ws ss ids rows marks → seen n after ≡ flat_rows head ws ss ids rows marks
   unfolding flat_rows
-  rows_headed answer h e f = rw (eq-eqb (length head) head_numbers h) (made-seen answer e f)
+  rows_headed answer h e f = rw (eq-eqb (length head) head_numbers h) (told-seen (λ _. 0) answer e f)
 
 -- ---- a lookup
 
@@ -55,17 +52,17 @@ module _ (head ws ss : List ℕ) (x : ℕ) (place : List ℕ) where
   unfolding flat_lookup
   lookup_unheaded h k e = rw (le-leb place_places (length place) h, ne_eqb (length head) head_numbers k, e)
 
-  pub lookup_headed : {n : ℕ} {place' : List ℕ} (found : Found) → place_places ≤ length place → length head ≡ head_numbers
+  pub lookup_headed : {n : ℕ} {place' : List ℕ} (found : Result (Option Place) Refusal) → place_places ≤ length place → length head ≡ head_numbers
       → answer_of found ≡ lookup_call (head_of head) ws ss x → seen n place' ≡ answer_seen (answer_of found) place → seen n place' ≡ flat_lookup head ws ss x place
   unfolding flat_lookup
   lookup_headed found h k e f =
       rw (le-leb place_places (length place) h, eq-eqb (length head) head_numbers k) (f ∙ ap (λ (a : Answer). answer_seen a place) e)
 
 -- the place of a row is written to the front
-pub place_written : {found : Found} (p : Place) (place : List ℕ) → place_places ≤ length place → found ≡ F.Row p
+pub place_written : {found : Result (Option Place) Refusal} (p : Place) (place : List ℕ) → place_places ≤ length place → found ≡ Ok (Some p)
     → seen p.row (set (set place 0 p.level) 1 p.position) ≡ answer_seen (answer_of found) place
 place_written p place h e =
-    ap (seen p.row) (sets-eq (p.level ∷ p.position ∷ []) place 0 h) ∙ ap (λ (f : Found). answer_seen (answer_of f) place) (sym e)
+    ap (seen p.row) (sets-eq (p.level ∷ p.position ∷ []) place 0 h) ∙ ap (λ (f : Result (Option Place) Refusal). answer_seen (answer_of f) place) (sym e)
 
 -- ---- a build
 
@@ -78,22 +75,22 @@ pub out_written : (value : ℕ) (ns out : List ℕ) → 0 < length out → {part
     → set (take 1 out ++ (part ++ drop (length out - 1) (drop 1 out))) 0 value ≡ fronted (value ∷ ns) out
 out_written value ns out h e = ap (λ (l : List ℕ). set l 0 value) (lent_from (fronted ns) 1 out e) ∙ front_written value ns out h
 
-made_end : (answer : Made) (head : Head) (s : Stores) (out : List ℕ)
-    → seen (of_made answer) (flat_built s (fronted (value_in answer ∷ numbers_of head) out)) ≡ end_seen (built_of answer head s) out
-made_end M.Done head s out = refl
-made_end (M.Refused r) head s out = refl
+made_end : (answer : Result Head Refusal) (s : Stores) (out : List ℕ)
+    → seen (of_made answer) (flat_built s (fronted (value_in answer ∷ numbers_of (head_made answer)) out)) ≡ end_seen (built_of answer s) out
+made_end (Ok head) s out = refl
+made_end (Err r) s out = refl
 
 module _ (number : ℕ) (gamma : Float) (ids : List ℕ) (s : Stores) (out : List ℕ) where
   pub build_short : {n : ℕ} → length out < out_places → n ≡ refused_number (number_of ShortOutput) → seen n (flat_built s out) ≡ flat_build number gamma ids s out
   unfolding flat_build
   build_short h e = rw (lt-leb out_places (length out) h, e)
 
-  pub build_asked : {n value : ℕ} {out' : List ℕ} (answer : Made) (head : Head) (after : Stores) → out_places ≤ length out → n ≡ of_made answer
-      → value ≡ value_in answer → built_of answer head after ≡ build_call number gamma ids s
-      → out' ≡ fronted (value ∷ numbers_of head) out → seen n (flat_built after out') ≡ flat_build number gamma ids s out
+  pub build_asked : {n : ℕ} {out' : List ℕ} (answer : Result Head Refusal) (after : Stores) → out_places ≤ length out → n ≡ of_made answer
+      → built_of answer after ≡ build_call number gamma ids s
+      → out' ≡ fronted (value_in answer ∷ numbers_of (head_made answer)) out → seen n (flat_built after out') ≡ flat_build number gamma ids s out
   unfolding flat_build
-  build_asked answer head after h e v f w =
-      rw (le-leb out_places (length out) h, w, v, e) (made_end answer head after out ∙ ap (λ (b : BuildEnd). end_seen b out) f)
+  build_asked answer after h e f w =
+      rw (le-leb out_places (length out) h, w, e) (made_end answer after out ∙ ap (λ (b : BuildEnd). end_seen b out) f)
 
 -- ---- an image
 
@@ -102,23 +99,24 @@ module _ (head ws ss image : List ℕ) where
   unfolding flat_write
   write_unheaded h e = rw (ne_eqb (length head) head_numbers h, e)
 
-  pub write_headed : {n : ℕ} {after : List ℕ} (answer : Counted) → length head ≡ head_numbers → n ≡ of_counted answer
+  pub write_headed : {n : ℕ} {after : List ℕ} (answer : Result ℕ Refusal) → length head ≡ head_numbers → n ≡ of_counted answer
       → counted answer after ≡ write_call (head_of head) ws ss image → seen n after ≡ flat_write head ws ss image
   unfolding flat_write
-  write_headed answer h e f = rw (eq-eqb (length head) head_numbers h) (counted-seen answer e f)
+  write_headed answer h e f = rw (eq-eqb (length head) head_numbers h) (told-seen (λ n. n) answer e f)
 
-made_read : (answer : Made) (head : Head) (ws ss out : List ℕ)
-    → seen (of_made answer) (flat_loaded ws ss (fronted (value_in answer ∷ numbers_of head) out)) ≡ read_seen (read_of answer head ws ss) out
-made_read M.Done head ws ss out = refl
-made_read (M.Refused r) head ws ss out = refl
+made_read : (answer : Result Head Refusal) (ws ss out : List ℕ)
+    → seen (of_made answer) (flat_loaded ws ss (fronted (value_in answer ∷ numbers_of (head_made answer)) out)) ≡ read_seen (read_of answer ws ss) out
+made_read (Ok head) ws ss out = refl
+made_read (Err r) ws ss out = refl
 
 module _ (image ws ss out : List ℕ) where
   pub read_short : {n : ℕ} → length out < out_places → n ≡ refused_number (number_of ShortOutput) → seen n (flat_loaded ws ss out) ≡ flat_read image ws ss out
   unfolding flat_read
   read_short h e = rw (lt-leb out_places (length out) h, e)
 
-  pub read_asked : {n value : ℕ} {out' : List ℕ} (answer : Made) (head : Head) (us vs : List ℕ) → out_places ≤ length out → n ≡ of_made answer → value ≡ value_in answer
-      → read_of answer head us vs ≡ read_call image ws ss → out' ≡ fronted (value ∷ numbers_of head) out → seen n (flat_loaded us vs out') ≡ flat_read image ws ss out
+  pub read_asked : {n : ℕ} {out' : List ℕ} (answer : Result Head Refusal) (us vs : List ℕ) → out_places ≤ length out → n ≡ of_made answer
+      → read_of answer us vs ≡ read_call image ws ss → out' ≡ fronted (value_in answer ∷ numbers_of (head_made answer)) out
+      → seen n (flat_loaded us vs out') ≡ flat_read image ws ss out
   unfolding flat_read
-  read_asked answer head us vs h e v f w =
-      rw (le-leb out_places (length out) h, w, v, e) (made_read answer head us vs out ∙ ap (λ (b : Outcome ReadAfter). read_seen b out) f)
+  read_asked answer us vs h e f w =
+      rw (le-leb out_places (length out) h, w, e) (made_read answer us vs out ∙ ap (λ (b : Outcome ReadAfter). read_seen b out) f)

@@ -10,18 +10,13 @@ use borrow.Author.Tests.{le-leb, lt-leb, ne_eqb}
 use lib.Dec.{leb, lit≤}
 use lib.ListN.{length}
 use Rattle.bounds.specs.Bounds.{max_bits, max_ids}
-use Rattle.laws.specs.Counting.{rank}
+use Rattle.laws.specs.Counting.{one, rank}
 use Rattle.laws.proofs.Sums.{rank-le}
 use Rattle.refusal.specs.Table.{number_of, value_of}
 use Rattle.refusal.specs.declared.Refusal.{Refusal}
 use Rattle.refusal.specs.declared.Refusal.TheVariants.{UnfitHead, UnfitSet, ShortOutput, UnfitContent, UnknownKind}
 use Rattle.refusal.proofs.Apart.{numbered}
-use Rattle.refusal.specs.declared.Made.{Made}
-use Rattle.refusal.specs.declared.Made.TheVariants as M
-use Rattle.refusal.specs.declared.Said.{Said}
-use Rattle.refusal.specs.declared.Said.TheVariants as S
-use Rattle.refusal.specs.declared.Counted.{Counted}
-use Rattle.refusal.specs.declared.Counted.TheVariants as C
+use Rattle.std.specs.Prelude.{Option, None, Some, Result, Ok, Err}
 use Rattle.refusal.specs.Answers.{Outcome, untouched, counted, refused, check}
 use Rattle.bitvector.specs.Calls.{sound, len_call, members_call}
 use Rattle.bitvector.specs.Sets.{set_of}
@@ -29,12 +24,9 @@ use Rattle.bitvector.proofs.Soundness.{sound_room}
 use Rattle.mixer.specs.Kinds.{kind_of}
 use Rattle.head.specs.KindCheck.{check_kind}
 use Rattle.mixer.specs.declared.Kind.{Kind}
-use Rattle.mixer.specs.declared.KindOf.{KindOf}
-use Rattle.mixer.specs.declared.KindOf.TheVariants.{Known, Unknown}
 use Rattle.mixer.proofs.KindNumbers.{number_known, number_or_not}
 use Rattle.head.specs.declared.Head.{Head}
-use Rattle.finding.specs.declared.Found.{Found}
-use Rattle.finding.specs.declared.Found.TheVariants as F
+use Rattle.finding.specs.declared.Place.{Place}
 use Rattle.head.specs.Layout.{size_at, used_of, used_by, unused_clear, fit}
 use Rattle.finding.specs.Find.{refused_for, answer_of, row_in}
 use Rattle.lookup.specs.Lookup.{lookup_call}
@@ -43,7 +35,7 @@ use Rattle.block.specs.Block.{block_bytes}
 use Rattle.image.specs.Image.{form, image_blocks, write_call}
 use Rattle.lookup.proofs.Lookups.{lookup_unknown, lookup-fit, lookup_unfit}
 use Rattle.finding.proofs.Told.{found_below}
-use Rattle.host.specs.Numbers.{none_number, refused_number, of_made, of_said, of_counted, of_answer, value, no_row, refusal, reading, told_made, told_said, told_counted, told_found}
+use Rattle.host.specs.Numbers.{none_number, refused_number, of_told, of_made, of_said, of_counted, of_answer, value, no_row, refusal, reading, told_as, told_made, told_said, told_counted, told_found}
 use Rattle.host.proofs.Answers.{refused-number}
 
 -- ---- numbers
@@ -66,39 +58,48 @@ read_none = refl
 
 -- ---- an answer that is done, yes or no, whichever call gives it
 
-pub made_read : (answer : Made) → reading (of_made answer) ≡ told_made answer
-made_read M.Done = read_value 0 (omega arith)
-made_read (M.Refused r) = ap reading (refused-number r _) ∙ read_refusal r
+told_read : {A : Type 0} (number : A → ℕ) (answer : Result A Refusal) → ((a : A) → answer ≡ Ok a → number a ≤ max_bits)
+    → reading (of_told number answer) ≡ told_as number answer
+told_read number (Ok a) h = read_value (number a) (h a refl)
+told_read number (Err r) h = ap reading (refused-number r _) ∙ read_refusal r
 
-pub said_read : (answer : Said) → reading (of_said answer) ≡ told_said answer
-said_read S.Yes = read_value 1 (omega arith)
-said_read S.No = read_value 0 (omega arith)
-said_read (S.Refused r) = ap reading (refused-number r _) ∙ read_refusal r
+pub made_read : {A : Type 0} (answer : Result A Refusal) → reading (of_made answer) ≡ told_made answer
+made_read answer = told_read (λ _. 0) answer (λ a e. omega arith)
+
+pub said_read : (answer : Result Bool Refusal) → reading (of_said answer) ≡ told_said answer
+said_read answer = told_read one answer (λ b e. low_one b)
+  where
+    low_one : (b : Bool) → one b ≤ max_bits
+    low_one true = omega arith
+    low_one false = omega arith
 
 -- ---- a count: no set has more numbers than the bit bound
 
 module _ {After : Type 0} where
-  counted_read : (answer : Counted) (s : After) → (counted answer s).value ≤ max_bits → reading (of_counted answer) ≡ told_counted answer
-  counted_read (C.Count n) s h = read_value n h
-  counted_read (C.Refused r) s h = ap reading (refused-number r _) ∙ read_refusal r
+  counted_read : (answer : Result ℕ Refusal) (s : After) → (counted answer s).value ≤ max_bits → reading (of_counted answer) ≡ told_counted answer
+  counted_read answer s h = told_read (λ n. n) answer (λ n e. rw e at h)
 
   low_check : (test : Bool) (reason : Refusal) (s : After) (next : Outcome After) → value_of reason ≤ max_bits → (test ≡ true → next.value ≤ max_bits)
       → (check test reason (refused s) next).value ≤ max_bits
   low_check true reason s next v h = h refl
   low_check false reason s next v h = v
 
-  low_kind : (of : KindOf) (s : After) (next : Kind → Outcome After) → ((kind : Kind) → (next kind).value ≤ max_bits) → (check_kind of (refused s) next).value ≤ max_bits
-  low_kind Unknown s next h = lit≤ tt
-  low_kind (Known kind) s next h = h kind
+  low_kind : (number : ℕ) (s : After) (next : Kind → Outcome After) → ((kind : Kind) → (next kind).value ≤ max_bits)
+      → (check_kind (kind_of number) (refused s) next).value ≤ max_bits
+  low_kind number s next h =
+      elim (number_or_not number) [
+        | inl (kind, k) ↦ rw (k, number_known kind) (h kind)
+        | inr u ↦ rw u (lit≤ tt)
+      ]
 
 module _ (capacity : ℕ) (ws : List ℕ) where
   few_members : sound capacity ws ≡ true → rank (set_of capacity ws) capacity ≤ max_bits
   few_members s = omega (arith, rank-le (set_of capacity ws) capacity, (sound_room capacity ws s).bound)
 
-  pub len_read : (answer : Counted) → counted answer untouched ≡ len_call capacity ws → reading (of_counted answer) ≡ told_counted answer
+  pub len_read : (answer : Result ℕ Refusal) → counted answer untouched ≡ len_call capacity ws → reading (of_counted answer) ≡ told_counted answer
   len_read answer e = counted_read answer untouched (rw e (low_check (sound capacity ws) UnfitSet untouched _ (lit≤ tt) few_members))
 
-  pub members_read : (out : List ℕ) (answer : Counted) (store : List ℕ) → counted answer store ≡ members_call capacity ws out
+  pub members_read : (out : List ℕ) (answer : Result ℕ Refusal) (store : List ℕ) → counted answer store ≡ members_call capacity ws out
       → reading (of_counted answer) ≡ told_counted answer
   members_read out answer store e =
       let size = rank (set_of capacity ws) capacity in
@@ -114,11 +115,11 @@ module _ (head : Head) (ws ss image : List ℕ) where
       let f = few_used head.count head.levels head.sizes (used_of head.levels head.sizes) (measured_uses head.count head.levels head.sizes b) in
       omega (arith, f.words, f.samples)
 
-  pub write_read : (answer : Counted) (after : List ℕ) → counted answer after ≡ write_call head ws ss image → reading (of_counted answer) ≡ told_counted answer
+  pub write_read : (answer : Result ℕ Refusal) (after : List ℕ) → counted answer after ≡ write_call head ws ss image → reading (of_counted answer) ≡ told_counted answer
   unfolding write_call
   write_read answer after e =
       counted_read answer after
-      (rw e (low_kind (kind_of head.kind) image _
+      (rw e (low_kind head.kind image _
       (λ kind. low_check (fit head.count head.levels head.sizes (length ws) (length ss)) UnfitHead image _ (lit≤ tt)
       (λ f. low_check (unused_clear head.levels head.sizes) UnfitContent image _ (lit≤ tt)
       (λ u. low_check (leb (block_bytes * image_blocks form (used_by head)) (length image)) ShortOutput image _ (lit≤ tt) (λ l. few_blocks f))))))
@@ -139,7 +140,7 @@ module _ (head : Head) (ws ss : List ℕ) (x : ℕ) where
             absurd (omega arith)
       ]
     where
-      go : (kind : Kind) → kind_of head.kind ≡ Known kind → (b : Bool) → fits ≡ b → r < max_ids
+      go : (kind : Kind) → kind_of head.kind ≡ Ok kind → (b : Bool) → fits ≡ b → r < max_ids
       go kind k true h =
           let few = (fit_known head.count head.levels head.sizes (length ws) (length ss) h).bounds.few_ids in
           omega (arith, few, found_below _ head.count (size_at head.sizes) ws ss x head.levels r (ap row_in (lookup-fit head ws ss x kind k h) ∙ e))
@@ -148,7 +149,7 @@ module _ (head : Head) (ws ss : List ℕ) (x : ℕ) where
           let z : ◌≡◌ {A = ℕ} 0 1 = cc in
           absurd (omega arith)
 
-  pub found_read : (answer : Found) → answer_of answer ≡ lookup_call head ws ss x → reading (of_answer (answer_of answer)) ≡ told_found answer
-  found_read (F.Row p) e = read_value p.row (omega (arith, row_low p.row (sym (ap row_in e))))
-  found_read F.None e = read_none
-  found_read (F.Refused r) e = read_refusal r
+  pub found_read : (answer : Result (Option Place) Refusal) → answer_of answer ≡ lookup_call head ws ss x → reading (of_answer (answer_of answer)) ≡ told_found answer
+  found_read (Ok (Some p)) e = read_value p.row (omega (arith, row_low p.row (sym (ap row_in e))))
+  found_read (Ok None) e = read_none
+  found_read (Err r) e = read_refusal r

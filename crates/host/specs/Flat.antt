@@ -1,10 +1,12 @@
 -- The calls as a host sees them: each is what the call itself leaves behind, as one number and stores.
-use Rattle.std.specs.Prelude.{ℕ, ◌+◌, Bool, List, [], ◌∷◌, eqb, leb, Float, length}
+use Rattle.std.specs.Prelude.{ℕ, ◌+◌, Bool, cond, List, [], ◌∷◌, eqb, leb, Float, Option, None, Some, Result, Ok, Err, length}
 use Rattle.laws.specs.Stores.{fronted}
 use Rattle.refusal.specs.Table.{number_of}
 use Rattle.refusal.specs.Answers.{Outcome, check}
 use Rattle.refusal.specs.declared.Refusal.{Refusal}
 use Rattle.refusal.specs.declared.Refusal.TheVariants.{UnfitHead, ShortOutput}
+use Rattle.head.specs.declared.Head.{Head}
+use Rattle.head.specs.Index.{no_head}
 use Rattle.head.specs.Numbers.{head_numbers, head_of, numbers_of}
 use Rattle.run.specs.Stores.{Stores}
 use Rattle.build.specs.Build.{BuildEnd, build_call}
@@ -33,6 +35,15 @@ module _ {After : Type 0} where
 -- a call that takes a head needs as many numbers as a head is
 abbrev pub is_head : List ℕ → Bool
 is_head ns = eqb (length ns) head_numbers
+
+-- the head of such numbers, if they are
+unfoldable pub head_lent : List ℕ → Option Head
+head_lent ns = cond (is_head ns) (Some (head_of ns)) None
+
+-- the head of a call that makes one: of 0 where it is refused
+abbrev pub head_made : Result Head Refusal → Head
+head_made (Ok head) = head
+head_made (Err why) = no_head
 
 -- ---- a build: first `out` is asked, which gets the value of refusal 5 or 6, else 0, and the head; its later places stay
 

@@ -1,16 +1,11 @@
 -- The one number that an answer is to a host: a value, 2^64 - 1 for none, 2^64 - 1 - r for refusal r.
-use Rattle.std.specs.Prelude.{ℕ, ◌-◌, cond, eqb, leb}
+use Rattle.std.specs.Prelude.{ℕ, ◌-◌, Bool, cond, eqb, leb, Option, None, Some, Result, Ok, Err}
 use Rattle.bounds.specs.Bounds.{max_bits}
+use Rattle.laws.specs.Counting.{one}
 use Rattle.refusal.specs.Table.{number_of}
-use Rattle.refusal.specs.declared.Made.{Made}
-use Rattle.refusal.specs.declared.Made.TheVariants as M
-use Rattle.refusal.specs.declared.Said.{Said}
-use Rattle.refusal.specs.declared.Said.TheVariants as S
-use Rattle.refusal.specs.declared.Counted.{Counted}
-use Rattle.refusal.specs.declared.Counted.TheVariants as C
-use Rattle.refusal.specs.Answers.{Outcome, untouched, made, said, counted}
-use Rattle.finding.specs.declared.Found.{Found}
-use Rattle.finding.specs.declared.Found.TheVariants as F
+use Rattle.refusal.specs.declared.Refusal.{Refusal}
+use Rattle.refusal.specs.Answers.{Outcome, untouched, told}
+use Rattle.finding.specs.declared.Place.{Place}
 use Rattle.finding.specs.Find.{Answer, found, nothing, refused}
 
 abbrev pub none_number : ℕ
@@ -33,18 +28,21 @@ of_answer nothing = none_number
 of_answer (refused r value) = refused_number r
 
 -- the value that a refusal carries, else 0
-abbrev pub value_in : Made → ℕ
-value_in answer = (made answer untouched).value
+abbrev pub value_in : {A : Type 0} → Result A Refusal → ℕ
+value_in answer = (told (λ _. 0) answer untouched).value
 
--- the numbers of the code's enums
-abbrev pub of_made : Made → ℕ
-of_made answer = of_outcome (made answer untouched)
+-- the number of the code's results, where what is answered has a number: done is 0, yes is 1, no is 0, a count is itself
+abbrev pub of_told : {A : Type 0} → (A → ℕ) → Result A Refusal → ℕ
+of_told number answer = of_outcome (told number answer untouched)
 
-abbrev pub of_said : Said → ℕ
-of_said answer = of_outcome (said answer untouched)
+abbrev pub of_made : {A : Type 0} → Result A Refusal → ℕ
+of_made = of_told (λ _. 0)
 
-abbrev pub of_counted : Counted → ℕ
-of_counted answer = of_outcome (counted answer untouched)
+abbrev pub of_said : Result Bool Refusal → ℕ
+of_said = of_told one
+
+abbrev pub of_counted : Result ℕ Refusal → ℕ
+of_counted = of_told (λ n. n)
 
 -- ---- how a host reads a number: up to the bit bound it is a value. proofs/Readings.antt shows that no call's answer is read as another.
 
@@ -57,20 +55,20 @@ unfoldable pub reading : ℕ → Reading
 reading n = cond (leb n max_bits) (value n) (cond (eqb n none_number) no_row (refusal (none_number - n)))
 
 -- what has to be read of each answer
-abbrev pub told_made : Made → Reading
-told_made M.Done = value 0
-told_made (M.Refused r) = refusal (number_of r)
+abbrev pub told_as : {A : Type 0} → (A → ℕ) → Result A Refusal → Reading
+told_as number (Ok a) = value (number a)
+told_as number (Err r) = refusal (number_of r)
 
-abbrev pub told_said : Said → Reading
-told_said S.Yes = value 1
-told_said S.No = value 0
-told_said (S.Refused r) = refusal (number_of r)
+abbrev pub told_made : {A : Type 0} → Result A Refusal → Reading
+told_made = told_as (λ _. 0)
 
-abbrev pub told_counted : Counted → Reading
-told_counted (C.Count n) = value n
-told_counted (C.Refused r) = refusal (number_of r)
+abbrev pub told_said : Result Bool Refusal → Reading
+told_said = told_as one
 
-abbrev pub told_found : Found → Reading
-told_found (F.Row p) = value p.row
-told_found F.None = no_row
-told_found (F.Refused r) = refusal (number_of r)
+abbrev pub told_counted : Result ℕ Refusal → Reading
+told_counted = told_as (λ n. n)
+
+abbrev pub told_found : Result (Option Place) Refusal → Reading
+told_found (Ok (Some p)) = value p.row
+told_found (Ok None) = no_row
+told_found (Err r) = refusal (number_of r)

@@ -1,50 +1,63 @@
 // Answers as one number.
-ghost use Rattle.std.specs.Prelude.{◌≡◌};
+ghost use Rattle.std.specs.Prelude.{◌≡◌, ℕ};
+ghost use Rattle.laws.specs.Counting.{one};
 ghost use Rattle.refusal.specs.Table.{number_of};
-ghost use Rattle.host.specs.Numbers.{refused_number, of_made, of_said, of_counted, value_in};
+ghost use Rattle.host.specs.Numbers.{refused_number, of_told};
 
-use refusal::{Counted, Made, Refusal, Said};
+use head::Head;
+use refusal::Refusal;
 
-pub(crate) fn made(answer: Made) -> u64
-    ensures { result ≡ of_made answer }
-{
-    match answer {
-        Made::Done => 0,
-        Made::Refused(reason) => refused(reason),
+// What a call answers where it is not refused, as a number: done is 0, yes is 1, no is 0, a count is itself, a head is done.
+pub(crate) trait Answer {
+    ghost number: { Self → ℕ };
+
+    fn number(self) -> u64
+        ensures { result ≡ number self };
+}
+
+impl Answer for () {
+    ghost number = { λ _. 0 };
+
+    fn number(self) -> u64 {
+        0
     }
 }
 
-pub(crate) fn said(answer: Said) -> u64
-    ensures { result ≡ of_said answer }
-{
-    match answer {
-        Said::Yes => 1,
-        Said::No => 0,
-        Said::Refused(reason) => refused(reason),
+impl Answer for bool {
+    ghost number = { one };
+
+    fn number(self) -> u64 {
+        u64::from(self)
     }
 }
 
-pub(crate) fn counted(answer: Counted) -> u64
-    ensures { result ≡ of_counted answer }
-{
-    match answer {
-        Counted::Count(n) => n,
-        Counted::Refused(reason) => refused(reason),
+impl Answer for u64 {
+    ghost number = { λ n. n };
+
+    fn number(self) -> u64 {
+        self
     }
 }
 
-// The value that a refusal carries, else 0.
-pub(crate) fn value(answer: Made) -> u64
-    ensures { result ≡ value_in answer }
-{
-    match answer {
-        Made::Done => 0,
-        Made::Refused(reason) => refusal::value(reason),
+impl Answer for Head {
+    ghost number = { λ _. 0 };
+
+    fn number(self) -> u64 {
+        0
     }
 }
 
-pub(crate) fn refused(reason: Refusal) -> u64
-    ensures { result ≡ refused_number (number_of reason) }
+pub(crate) fn number<T: Answer>(answer: Result<T, Refusal>) -> u64
+    ensures { result ≡ of_told T.number answer }
 {
-    u64::MAX - refusal::number(reason)
+    match answer {
+        Ok(told) => told.number(),
+        Err(why) => refused(why),
+    }
+}
+
+pub(crate) fn refused(why: Refusal) -> u64
+    ensures { result ≡ refused_number (number_of why) }
+{
+    u64::MAX - why.number()
 }

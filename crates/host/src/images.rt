@@ -2,11 +2,8 @@
 ghost use Rattle.std.specs.Prelude.{◌≡◌};
 ghost use Rattle.host.specs.Flat.{seen, flat_loaded, flat_write, flat_read};
 
-use crate::answer;
-use crate::answer::refused;
-use crate::index::{OUT, write_out};
-use head::numbers;
-use head::numbers::NUMBERS;
+use crate::answer::{number, refused};
+use crate::index::{OUT, head_of, write_out};
 use refusal::Refusal;
 
 // Writes the image of an index to the front of the store: how many blocks it has, or the refusal.
@@ -14,11 +11,10 @@ pub fn shawltide_image_write(head: &[u64], words: &[u64], samples: &[u64], image
     ensures { seen result image.new
         ≡ flat_write head.now words.now samples.now image.old }
 {
-    if head.len() != NUMBERS {
+    let Some(head) = head_of(head) else {
         return refused(Refusal::UnfitHead);
-    }
-    let answer = image::write(numbers::read(head), words, samples, image);
-    answer::counted(answer)
+    };
+    number(image::write(&head, words, samples, image))
 }
 
 // Reads an image into the stores: 0, or the refusal. `out` gets the block that refusal 14 carries, else 0, and the head.
@@ -35,16 +31,6 @@ pub fn shawltide_image_read(
         return refused(Refusal::ShortOutput);
     }
     let loaded = image::read(image, words, samples);
-    let outcome = loaded.outcome;
-    let head = loaded.head;
-    let sizes = head.sizes;
-    write_out(
-        answer::value(outcome),
-        head.kind,
-        head.count,
-        head.levels,
-        &sizes,
-        out,
-    );
-    answer::made(outcome)
+    write_out(&loaded, out);
+    number(loaded)
 }

@@ -1,18 +1,14 @@
 // The calls on an index, with the head as numbers and each answer as one number.
 ghost use Rattle.std.specs.Prelude.{◌≡◌, ◌≤◌, ◌∷◌, length};
-ghost use Rattle.bounds.specs.Bounds.{head_sizes};
 ghost use Rattle.laws.specs.Stores.{fronted};
 ghost use Rattle.head.specs.Numbers.{numbers_of};
 ghost use Rattle.run.specs.Stores.{stores};
 ghost use Rattle.rows.specs.Rows.{row_stores};
-ghost use Rattle.host.specs.Flat.{seen, flat_built, out_places, flat_build, flat_lookup, flat_rows};
+ghost use Rattle.host.specs.Numbers.{value_in};
+ghost use Rattle.host.specs.Flat.{seen, flat_built, out_places, head_made, head_lent, flat_build, flat_lookup, flat_rows};
 
-use crate::answer;
-use crate::answer::refused;
-use bounds::HEAD_SIZES;
-use finding::Found;
-use head::numbers;
-use head::numbers::NUMBERS;
+use crate::answer::{number, refused};
+use head::{Head, NUMBERS};
 use refusal::Refusal;
 
 // How many places `out` needs: one for a value, and the head's.
@@ -39,35 +35,36 @@ pub fn shawltide_build(
         return refused(Refusal::ShortOutput);
     }
     let built = build::build(kind, gamma, ids, words, samples, collide, rest);
-    let outcome = built.outcome;
-    let head = built.head;
-    let sizes = head.sizes;
-    write_out(
-        answer::value(outcome),
-        head.kind,
-        head.count,
-        head.levels,
-        &sizes,
-        out,
-    );
-    answer::made(outcome)
+    write_out(&built, out);
+    number(built)
 }
 
-// The value and the head's numbers, at the front of `out`.
-pub(crate) fn write_out(
-    value: u64,
-    kind: u64,
-    count: u64,
-    levels: u64,
-    sizes: &[u64; HEAD_SIZES],
-    out: &mut [u64],
-)
-    requires { (length sizes.now ≡ head_sizes) × (out_places ≤ length out.old) }
-    ensures { out.new
-        ≡ fronted (value ∷ numbers_of (record { kind = kind; count = count; levels = levels; sizes = sizes.now })) out.old }
+// What a call that makes a head leaves at the front of `out`: the value that its refusal carries, else 0, and the head, which is of 0 where it is refused.
+pub(crate) fn write_out(made: &Result<Head, Refusal>, out: &mut [u64])
+    requires { out_places ≤ length out.old }
+    ensures { out.new ≡ fronted (value_in made.now ∷ numbers_of (head_made made.now)) out.old }
 {
-    numbers::write(kind, count, levels, sizes, &mut out[1..]);
-    out[0] = value;
+    match made {
+        Ok(head) => {
+            out[0] = 0;
+            head.write(&mut out[1..]);
+        }
+        Err(why) => {
+            out[0] = why.value();
+            Head::none().write(&mut out[1..]);
+        }
+    }
+}
+
+// The head of the numbers that a host lends, if they are as many as a head is.
+pub(crate) fn head_of(numbers: &[u64]) -> Option<Head>
+    ensures { result ≡ head_lent numbers.now }
+{
+    if numbers.len() == NUMBERS {
+        Some(Head::read(numbers))
+    } else {
+        None
+    }
 }
 
 // The id's row, none, or the refusal. `place` gets the level and the position of a row.
@@ -84,18 +81,17 @@ pub fn shawltide_lookup(
     if place.len() < PLACE {
         return refused(Refusal::ShortOutput);
     }
-    if head.len() != NUMBERS {
+    let Some(head) = head_of(head) else {
         return refused(Refusal::UnfitHead);
-    }
-    let found = lookup::lookup(numbers::read(head), words, samples, id);
-    match found {
-        Found::Row(at) => {
+    };
+    match lookup::lookup(&head, words, samples, id) {
+        Ok(Some(at)) => {
             place[0] = at.level;
             place[1] = at.position;
             at.row
         }
-        Found::None => u64::MAX,
-        Found::Refused(reason) => refused(reason),
+        Ok(None) => u64::MAX,
+        Err(why) => refused(why),
     }
 }
 
@@ -111,9 +107,8 @@ pub fn shawltide_rows(
     ensures { seen result (row_stores rows.new marks.new)
         ≡ flat_rows head.now words.now samples.now ids.now rows.old marks.old }
 {
-    if head.len() != NUMBERS {
+    let Some(head) = head_of(head) else {
         return refused(Refusal::UnfitHead);
-    }
-    let answer = rows::rows(numbers::read(head), words, samples, ids, rows, marks);
-    answer::made(answer)
+    };
+    number(rows::rows(&head, words, samples, ids, rows, marks))
 }

@@ -4,62 +4,55 @@ ghost use Rattle.bitvector.specs.Calls.{new_call, ones_call, is_empty_call, len_
 ghost use Rattle.refusal.specs.Answers.{untouched};
 ghost use Rattle.host.specs.Flat.{seen, seen_of};
 
-use crate::answer;
+use crate::answer::number;
 
 // The empty set.
 pub fn shawltide_set_empty(capacity: u64, words: &mut [u64]) -> u64
     ensures { seen result words.new ≡ seen_of (new_call capacity words.old) }
 {
-    let answer = bitvector::new(capacity, words);
-    answer::made(answer)
+    number(bitvector::new(capacity, words))
 }
 
 // The set of every number below the capacity.
 pub fn shawltide_set_ones(capacity: u64, words: &mut [u64]) -> u64
     ensures { seen result words.new ≡ seen_of (ones_call capacity words.old) }
 {
-    let answer = bitvector::ones(capacity, words);
-    answer::made(answer)
+    number(bitvector::ones(capacity, words))
 }
 
 // 1 if the set has no number, else 0.
 pub fn shawltide_set_is_empty(capacity: u64, words: &[u64]) -> u64
     ensures { seen result untouched ≡ seen_of (is_empty_call capacity words.now) }
 {
-    let answer = bitvector::is_empty(capacity, words);
-    answer::said(answer)
+    number(bitvector::is_empty(capacity, words))
 }
 
 // How many numbers the set has.
 pub fn shawltide_set_len(capacity: u64, words: &[u64]) -> u64
     ensures { seen result untouched ≡ seen_of (len_call capacity words.now) }
 {
-    let answer = bitvector::len(capacity, words);
-    answer::counted(answer)
+    number(bitvector::len(capacity, words))
 }
 
 // 1 if the bit is in the set, else 0.
 pub fn shawltide_set_contains(capacity: u64, words: &[u64], bit: u64) -> u64
     ensures { seen result untouched ≡ seen_of (contains_call capacity words.now bit) }
 {
-    let answer = bitvector::contains(capacity, words, bit);
-    answer::said(answer)
+    number(bitvector::contains(capacity, words, bit))
 }
 
 // 1 if the bit is new, else 0.
 pub fn shawltide_set_insert(capacity: u64, words: &mut [u64], bit: u64) -> u64
     ensures { seen result words.new ≡ seen_of (insert_call capacity words.old bit) }
 {
-    let answer = bitvector::insert(capacity, words, bit);
-    answer::said(answer)
+    number(bitvector::insert(capacity, words, bit))
 }
 
 // 1 if the bit was there, else 0.
 pub fn shawltide_set_remove(capacity: u64, words: &mut [u64], bit: u64) -> u64
     ensures { seen result words.new ≡ seen_of (remove_call capacity words.old bit) }
 {
-    let answer = bitvector::remove(capacity, words, bit);
-    answer::said(answer)
+    number(bitvector::remove(capacity, words, bit))
 }
 
 // 1 if the set has changed, else 0.
@@ -71,8 +64,7 @@ pub fn shawltide_set_insert_all(
 ) -> u64
     ensures { seen result words.new ≡ seen_of (insert_all_call capacity words.old other_capacity other.now) }
 {
-    let answer = bitvector::insert_all(capacity, words, other_capacity, other);
-    answer::said(answer)
+    number(bitvector::insert_all(capacity, words, other_capacity, other))
 }
 
 // 1 if the two sets have the same numbers below the bit, else 0.
@@ -85,14 +77,12 @@ pub fn shawltide_set_eq_left(
 ) -> u64
     ensures { seen result untouched ≡ seen_of (eq_left_call capacity words.now other_capacity other.now bit) }
 {
-    let answer = bitvector::eq_left(capacity, words, other_capacity, other, bit);
-    answer::said(answer)
+    number(bitvector::eq_left(capacity, words, other_capacity, other, bit))
 }
 
 // How many members are written to the front of `out`.
 pub fn shawltide_set_members(capacity: u64, words: &[u64], out: &mut [u64]) -> u64
     ensures { seen result out.new ≡ seen_of (members_call capacity words.now out.old) }
 {
-    let answer = bitvector::members(capacity, words, out);
-    answer::counted(answer)
+    number(bitvector::members(capacity, words, out))
 }

@@ -25,19 +25,20 @@ Once After A f x = (a b : A) (s t : After) → f a s ≡ x → f b t ≡ x → (
 abbrev pub result_in : {A After : Type 0} → (Outcome After → A) → Outcome After → Result A Refusal
 result_in back x = answer_back (Ok (back x)) Err x.refusal x.value
 
+-- the stores beside a result are those of its outcome
+pub told_after : {A After : Type 0} (value : A → ℕ) (a : Result A Refusal) (s : After) → (told value a s).after ≡ s
+told_after value (Ok a) s = refl
+told_after value (Err r) s = refl
+
 module _ (After : Type 0) where
   -- of a result, where what is answered can be read back from its number
   module _ {A : Type 0} (value : A → ℕ) (back : ℕ → A) (back_value : (a : A) → back (value a) ≡ a) where
-    told_left : (a : Result A Refusal) (s : After) → (told value a s).after ≡ s
-    told_left (Ok a) s = refl
-    told_left (Err r) s = refl
-
     told_answer : (a : Result A Refusal) (s : After) → result_in (λ x. back x.value) (told value a s) ≡ a
     told_answer (Ok a) s = ap Ok (back_value a)
     told_answer (Err r) s = refused_back _ Err r
 
     pub told_once : (x : Outcome After) → Once After (Result A Refusal) (told value) x
-    told_once = once_by (told value) (result_in (λ x. back x.value)) (λ x. x.after) told_answer told_left
+    told_once = once_by (told value) (result_in (λ x. back x.value)) (λ x. x.after) told_answer (told_after value)
 
   pub made_once : (x : Outcome After) → Once After (Result Unit Refusal) made x
   made_once = told_once (λ _. 0) (λ _. tt) (λ _. refl)
