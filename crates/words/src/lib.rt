@@ -1,8 +1,9 @@
 // One bit, or some words, of words that are there: bit b is bit b mod 64 of word b / 64. What a step asks, its callers have proved.
 #![tactic(auto)]
 
-ghost use Rattle.std.specs.Prelude.{◌≡◌, ◌/◌, ◌≤◌, ◌<◌, ◌++◌, length, drop, replicate};
+ghost use Rattle.std.specs.Prelude.{◌≡◌, ◌*◌, ◌/◌, ◌^◌, ◌≤◌, ◌<◌, ◌++◌, length, drop, replicate};
 ghost use Rattle.bounds.specs.Bounds.{max_bits};
+ghost use Rattle.laws.specs.Counting.{rank};
 ghost use Rattle.laws.specs.Bits.{words_for, has, with_bit, without_bit};
 ghost use Rattle.words.specs.Steps.{Step};
 
@@ -44,6 +45,14 @@ pub fn drop_bit(words: &mut [u64], bit: u64) -> bool
         words[(bit / 64) as usize] -= 1 << (bit % 64);
     }
     was
+}
+
+// How many bits of the words are set.
+pub fn count_ones(words: &[u64]) -> u64
+    requires { 64 * length words.now < 2 ^ 64 }
+    ensures { result ≡ rank (has words.now) (64 * length words.now) }
+{
+    words.iter().map(|word| word.count_ones() as u64).sum()
 }
 
 // Puts one word into the first n places.
