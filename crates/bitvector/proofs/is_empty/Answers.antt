@@ -1,32 +1,25 @@
 -- `bitvector::is_empty` meets its contract. Assumes nothing.
-use mathlib.Core.Path.{◌≡◌, refl, sym, ap, ◌∙◌}
-use Prim.Native.Nat.{ℕ, ◌*◌}
+use mathlib.Core.Path.{◌≡◌, ap, ◌∙◌}
+use Prim.Native.Nat.{ℕ}
 use native.Mathlib.Omega.{arith}
-use Rattle.laws.specs.Counting.{rank}
-use Rattle.laws.specs.Bits.{has, words_for}
-use Rattle.bitvector.proofs.Soundness.{sound_room}
-use Rattle.bitvector.proofs.Sizes.{none_found, one_found, none_yet}
+use borrow.Author.Rules.{rules}
+use borrow.Author.Tests.{tests}
+use lib.Dec.{eqb}
+use Rattle.std.specs.List.{list_all}
+use Rattle.std.proofs.lemmas.Iterator.{YieldsList-from_slice}
+use Rattle.std.proofs.lemmas.Iterator.Search.{all_from_yields_List}
+use Rattle.bitvector.proofs.Soundness.{known, sound_room}
+use Rattle.bitvector.proofs.Fronts.{front_rank, front_words}
+use Rattle.bitvector.proofs.Sizes.{all_clear, none_set}
 use Rattle.bitvector.proofs.is_empty.Goals as goal
 
-pub u64s-need-requires : goal.u64s-need-requires
-u64s-need-requires c = (sound_room _ _ (sym c.is_sound.ensures ∙ c.if-not-is_sound.false)).bound
-
-pub loop-i-init : goal.loop-i-init
-loop-i-init c = record { room = sound_room _ _ (sym c.is_sound.ensures ∙ c.if-not-is_sound.false); none = refl }
-
-pub returns-then-words-i-ne0 : goal.returns-then-words-i-ne0
-returns-then-words-i-ne0 c =
-    let s = sym c.is_sound.ensures ∙ c.if-not-is_sound.false in
-    one_found _ _ s (λ i. (c.type_inv.words i).fits) c.loop-i.i (omega arith) c.if-words-i-ne0.true
-
-pub loop-i-preserved : goal.loop-i-preserved
-loop-i-preserved c =
-    let v = c.loop-i.invariant in
-    record { room = v.room; none = none_yet _ (λ i. (c.type_inv.words i).fits) c.loop-i.i v.none (omega arith) }
+pub needed-requires : goal.needed-requires
+needed-requires c = let r = sound_room _ _ (known _ _ c.check_sound.ensures c.in_ok-check_sound.was) in omega arith
 
 pub returns : goal.returns
 returns c =
-    let a = c.args in
-    let s = sym c.is_sound.ensures ∙ c.if-not-is_sound.false in
-    let e : words_for a.capacity ≡ c.loop-i.i = omega arith in
-    none_found _ _ s (ap (λ (k : ℕ). rank (has a.words.now) (64 * k)) e ∙ c.loop-i.invariant.none)
+    let n = c.needed.ensures in
+    let clear : c.all.result ≡ list_all (λ w. eqb w 0) c.needed.result.now =
+    all_from_yields_List (λ w. eqb w 0) _ _ c.all.result c.all.ensures.ran (YieldsList-from_slice c.needed.result.now cc) (λ x b q k. search (rules, tests)) in
+    all_clear _ _ (known _ _ c.check_sound.ensures c.in_ok-check_sound.was) _
+    (clear ∙ none_set _ (front_words _ _ n.front (λ i. (c.type_inv.words i).fits)) ∙ ap (λ (k : ℕ). eqb k 0) (front_rank _ _ n.front n.count))

@@ -1,15 +1,14 @@
 -- `bitvector::remove` meets its contract. Assumes nothing.
-use mathlib.Core.Path.{sym, ◌∙◌}
 use borrow.Author.Rules.{rules}
-use Rattle.bitvector.proofs.Soundness.{yes_said}
+use Rattle.bitvector.proofs.Soundness.{known, below}
 use Rattle.bitvector.proofs.Stores.{bit_word, removed}
 use Rattle.bitvector.proofs.remove.Goals as goal
 
 pub drop_bit-requires : goal.drop_bit-requires
-drop_bit-requires c = bit_word _ _ _ (sym c.is_sound.ensures ∙ c.if-not-is_sound.false) c.if-bit-capacity.false
+drop_bit-requires c = bit_word _ _ _ (known _ _ c.check_sound.ensures c.in_ok-check_sound.was) (below _ _ c.check_bit.ensures c.in_ok-check_bit.was)
 
 pub returns : goal.returns
 returns c =
-    let s = sym c.is_sound.ensures ∙ c.if-not-is_sound.false in
+    let s = known _ _ c.check_sound.ensures c.in_ok-check_sound.was in
     let step = c.drop_bit.ensures in
-    yes_said _ c.yes_if.ensures _ ∙ rw (step.old, step.words) (removed _ _ _ s c.if-bit-capacity.false (λ i. search rules))
+    rw (step.old, step.words) (removed _ _ _ s (below _ _ c.check_bit.ensures c.in_ok-check_bit.was) (λ i. search rules))
