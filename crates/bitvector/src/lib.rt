@@ -7,9 +7,9 @@ ghost use Rattle.bitvector.specs.Calls.{new_call, ones_call, is_empty_call, len_
 ghost use Rattle.bitvector.specs.Calls.{contains_call, insert_call, remove_call, insert_all_call, eq_left_call, members_call};
 
 use crate::checks::{check_bit, check_room, check_sound};
-use crate::steps::{count_bits, has_at_most, join, list_bits, needed, same_left};
+use crate::steps::{has_at_most, join, list_bits, needed, same_left};
 use refusal::Refusal;
-use words::{add_bit, drop_bit, fill, has_bit, u64s};
+use words::{add_bit, count_ones, drop_bit, fill, has_bit, u64s};
 
 mod checks;
 mod steps;
@@ -50,7 +50,7 @@ pub fn len(capacity: u64, words: &[u64]) -> Result<u64, Refusal>
     ensures { counted result untouched ≡ len_call capacity words.now }
 {
     check_sound(capacity, words)?;
-    Ok(count_bits(needed(capacity, words)))
+    Ok(count_ones(needed(capacity, words)))
 }
 
 // Whether the bit is in the set.

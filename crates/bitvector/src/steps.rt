@@ -7,7 +7,7 @@ ghost use Rattle.laws.specs.Bits.{words_for, has};
 ghost use Rattle.bitvector.specs.Sets.{same_below};
 ghost use Rattle.bitvector.specs.Steps.{WordListed, Listed, Front, Joined};
 
-use words::u64s;
+use words::{count_ones, u64s};
 
 // So many words are passed over at once where none has a bit.
 const GROUP: usize = 8;
@@ -19,14 +19,6 @@ pub(crate) fn needed(capacity: u64, words: &[u64]) -> &[u64]
     ensures count { length result.now ≡ words_for capacity }
 {
     &words[..u64s(capacity) as usize]
-}
-
-// How many bits are set in the words.
-pub(crate) fn count_bits(words: &[u64]) -> u64
-    requires { length words.now ≤ words_for max_bits }
-    ensures { result ≡ rank (has words.now) (64 * length words.now) }
-{
-    words.iter().map(|word| word.count_ones() as u64).sum()
 }
 
 // Whether a bit is set in the words.
@@ -45,10 +37,10 @@ fn count_sparse(words: &[u64]) -> u64
     let mut count: u64 = 0;
     for group in groups {
         if any_bit(group) {
-            count += count_bits(group);
+            count += count_ones(group);
         }
     }
-    count + count_bits(rest)
+    count + count_ones(rest)
 }
 
 // Whether at most so many bits are set in the words. They are counted only where there may be more.

@@ -9,10 +9,10 @@ use Rattle.bitvector.proofs.len.Goals as goal
 pub needed-requires : goal.needed-requires
 needed-requires c = let r = sound_room _ _ (known _ _ c.check_sound.ensures c.in_ok-check_sound.was) in omega arith
 
-pub count_bits-requires : goal.count_bits-requires
-count_bits-requires c = let r = sound_room _ _ (known _ _ c.check_sound.ensures c.in_ok-check_sound.was) in omega arith
+pub count_ones-requires : goal.count_ones-requires
+count_ones-requires c = let r = sound_room _ _ (known _ _ c.check_sound.ensures c.in_ok-check_sound.was) in omega arith
 
 pub returns : goal.returns
 returns c =
     all-counted _ _ (known _ _ c.check_sound.ensures c.in_ok-check_sound.was) _
-    (c.count_bits.ensures ∙ front_rank _ _ c.needed.ensures.front c.needed.ensures.count)
+    (c.count_ones.ensures ∙ front_rank _ _ c.needed.ensures.front c.needed.ensures.count)
