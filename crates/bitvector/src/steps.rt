@@ -120,6 +120,7 @@ pub(crate) fn join(words: &mut [u64], other: &[u64]) -> bool
     ensures { Joined (length words.old) words.old other.now result words.new }
 {
     let mut new = false;
+    // Over `words.iter_mut().zip(other)` a proof knows nothing of what is written.
     for (i, word) in words.iter_mut().enumerate() {
         let joined = *word | other[i];
         new |= joined != *word;
