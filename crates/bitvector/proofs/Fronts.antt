@@ -8,9 +8,8 @@ use lib.ListN.{length, get_or, take, drop, length-take, length-drop}
 use lib.Seq.{drop-drop, get_or-drop, get_or-take}
 use Rattle.std.specs.Simd.{first_chunks}
 use Rattle.laws.specs.Counting.{one, rank}
-use Rattle.laws.specs.Bits.{bit_at, has, Words}
+use Rattle.laws.specs.Bits.{bit_at, has}
 use Rattle.laws.proofs.Sums.{rank_same, sum_split}
-use Rattle.laws.proofs.Lists.{words_take}
 
 -- the words of a part are those from i on
 pub record PartOf (ws : List ℕ) (i : ℕ) (part : List ℕ) : Type 0 where
@@ -34,9 +33,6 @@ module _ (ws : List ℕ) (n : ℕ) {front : List ℕ} (e : front ≡ take n ws) 
   pub front_has : (b : ℕ) → b < 64 * n → has front b ≡ has ws b
   front_has b l = ap (λ (vs : List ℕ). has vs b) e ∙ take_has ws n b l
 
-  pub front_words : Words ws → Words front
-  front_words f = rw e (words_take n ws f)
-
   pub front_rank : length front ≡ n → rank (has front) (64 * length front) ≡ rank (has ws) (64 * n)
   front_rank l = ap (λ (k : ℕ). rank (has front) (64 * k)) l ∙ rank_same (has front) (has ws) (64 * n) front_has
 
@@ -49,6 +45,7 @@ drop_has ws i b =
     let r : (64 * i + b) % 64 ≡ b % 64 = omega arith in
     rw (q, r, get_or-drop i ws (b / 64) 0)
 
+-- in general a group of n words is the words from there on, n of them
 group_is : (n k : ℕ) (ws : List ℕ) (i : ℕ) (d : List ℕ) → i < k → get_or (first_chunks n k ws) i d ≡ take n (drop (i * n) ws)
 group_is n zero ws i d l = absurd (omega arith)
 group_is n (suc k) ws zero d l = ap (λ (j : ℕ). take n (drop j ws)) (sym (zero-mul n))
@@ -56,6 +53,7 @@ group_is n (suc k) ws (suc i) d l =
     let e : n + i * n ≡ suc i * n = omega (arith, suc-mul i n) in
     group_is n k (drop n ws) i d (omega arith) ∙ ap (take n) (drop-drop (i * n) n ws ∙ ap (λ (j : ℕ). drop j ws) e)
 
+-- the words of group g
 pub record IsGroup (ws : List ℕ) (g : ℕ) (words : List ℕ) : Type 0 where
   pub eight : length words ≡ 8
   pub part : PartOf ws (g * 8) words
@@ -77,6 +75,7 @@ grouped {ws} {g} {words} x =
     let e : (g + 1) * 8 ≡ g * 8 + length words = omega (arith, x.eight) in
     ap (λ (k : ℕ). rank (has ws) (64 * k)) e ∙ part_rank x.part
 
+-- the words past the groups
 pub rest_part : (ws : List ℕ) (i : ℕ) {rest : List ℕ} → rest ≡ drop i ws → PartOf ws i rest
 rest_part ws i e = record { bits = λ b m. ap (λ (l : List ℕ). has l b) e ∙ drop_has ws i b }
 

@@ -41,7 +41,7 @@ no_number base w k e = rw e
 
 -- the lowest set digit comes first, and then those of the word without it
 pub numbers_pop : (base w : ℕ) → w < 2 ^ 64 → w ≢ 0 → numbers_in base w ≡ (base + count_trailing_zeros 64 w) ∷ numbers_in base (w - 2 ^ count_trailing_zeros 64 w)
-unfolding numbers_in
+unfolding numbers_in counted_from
 numbers_pop base w h n =
     let low = lowest 64 w h n in
     let t : ℕ = count_trailing_zeros 64 w in
@@ -67,11 +67,11 @@ numbers_pop base w h n =
         ]
 
 pub numbers_zero : (base : ℕ) → numbers_in base 0 ≡ []
-unfolding numbers_in
+unfolding numbers_in counted_from
 numbers_zero base = refl
 
 pub length_numbers : (base w : ℕ) → w < 2 ^ 64 → length (numbers_in base w) ≡ ones w
-unfolding numbers_in
+unfolding numbers_in counted_from
 length_numbers base w h =
     length-chain (of_digit base w) 64 ∙ sum_same _ (λ k. digit w k) 64 (λ k l. go (digit w k) (digit_lt w k) k) ∙ sym (ones_low w 64) ∙ ap ones (mod-eq_of_lt h)
   where

@@ -2,7 +2,7 @@
 use mathlib.Core.Path.{◌≡◌, refl, sym, ap, ap₂, ◌∙◌}
 use mathlib.Core.Bool.{Bool, true, false, not, ◌&&◌, and-true}
 use mathlib.Core.List.{List, [], ◌∷◌}
-use Prim.Native.Nat.{ℕ, zero, suc, ◌+◌, ◌*◌, ◌≤◌}
+use Prim.Native.Nat.{ℕ, zero, suc, ◌+◌, ◌*◌, ◌≤◌, ◌<◌}
 use native.Mathlib.Nat.{le_refl}
 use native.Mathlib.Numerals.{add-one}
 use native.Mathlib.Omega.{arith}
@@ -18,6 +18,7 @@ use Rattle.std.proofs.lemmas.List.Sums.{sum_by_more, sum_by-cons}
 use Rattle.laws.specs.Counting.{one, rank}
 use Rattle.laws.specs.Bits.{has, Words, words_for}
 use Rattle.laws.proofs.Cases.{eqb_both}
+use Rattle.laws.proofs.Sums.{sum_mono}
 use Rattle.laws.proofs.Digits.{ones_none, ones-zero}
 use Rattle.laws.proofs.Ones.{rank_next}
 use Rattle.refusal.specs.Answers.{answered, untouched}
@@ -45,7 +46,7 @@ no_ones (w ∷ ws) =
     ap₂ ◌&&◌ (eqb_both w 0 (ones w) 0 (ones-zero w) (ones_none w)) (no_ones ws) ∙ sym (zero-sum (ones w) (sum_by ones ws))
     ∙ ap (λ (n : ℕ). eqb n 0) (sym (sum_by-cons ones w ws))
 
-pub none_set : (ws : List ℕ) → Words ws → list_all (λ w. eqb w 0) ws ≡ eqb (rank (has ws) (64 * length ws)) 0
+none_set : (ws : List ℕ) → Words ws → list_all (λ w. eqb w 0) ws ≡ eqb (rank (has ws) (64 * length ws)) 0
 none_set ws f = no_ones ws ∙ ap (λ (n : ℕ). eqb n 0) (sym (all_ones ws f))
 
 -- and so where the `|` of them is
@@ -67,6 +68,18 @@ any_set ws f = ap not (all_or 0 ws ∙ none_set ws f) ∙ some (rank (has ws) (6
 
 pub none_there : (n : ℕ) {any : Bool} → any ≡ ltb 0 n → any ≡ false → n ≡ 0
 none_there n e h = omega (arith, ltb-false 0 n (sym e ∙ h))
+
+-- ---- one word after another
+
+-- a word that is not 0 has a bit
+pub one_found : (ws : List ℕ) → Words ws → (i : ℕ) → i < length ws → (get_or ws i 0 ≡ 0 → ⊥) → eqb (rank (has ws) (64 * length ws)) 0 ≡ false
+one_found ws f i l n =
+    let m = sum_mono (λ p. one (has ws p)) {m = 64 * (i + 1)} {n = 64 * length ws} (omega arith) in
+    ne_eqb (rank (has ws) (64 * length ws)) 0 (λ e. n (ones_none (get_or ws i 0) (omega (arith, m, rank_next ws f i))))
+
+-- and a word that is 0 has none
+pub none_yet : (ws : List ℕ) → Words ws → (i : ℕ) → rank (has ws) (64 * i) ≡ 0 → get_or ws i 0 ≡ 0 → rank (has ws) (64 * (i + 1)) ≡ 0
+none_yet ws f i e z = rank_next ws f i ∙ omega (arith, ones-zero (get_or ws i 0) z)
 
 -- ---- the calls
 

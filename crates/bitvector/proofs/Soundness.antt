@@ -5,11 +5,10 @@ use mathlib.Core.List.{List}
 use Prim.Native.Nat.{ℕ, ◌+◌, ◌-◌, ◌*◌, ◌/◌, ◌%◌, ◌^◌, ◌≤◌, ◌<◌}
 use native.Mathlib.Nat.{add-zero}
 use native.Mathlib.Omega.{arith}
-use borrow.Author.Tests.{eqb-true, leb-true, ltb-true, ltb-false, lt-ltb}
+use borrow.Author.Tests.{eqb-true, leb-true, ltb-false, lt-ltb}
 use lib.Count.{ones}
 use lib.Dec.{eqb, ltb}
 use lib.ListN.{length, get_or}
-use Rattle.std.specs.Prelude.{Result, Ok, Err}
 use Rattle.bounds.specs.Bounds.{max_bits}
 use Rattle.laws.specs.Counting.{one, rank}
 use Rattle.laws.specs.Bits.{has, Words, words_for}
@@ -17,19 +16,8 @@ use Rattle.laws.proofs.Cases.{eqb_both, both}
 use Rattle.laws.proofs.Sums.{none_rank, rank_same, sum_split}
 use Rattle.laws.proofs.Digits.{ones_none, ones-zero}
 use Rattle.laws.proofs.Ones.{rank-rest}
-use Rattle.refusal.specs.Answers.{check}
-use Rattle.refusal.specs.declared.Refusal.{Refusal}
-use Rattle.refusal.specs.declared.Refusal.TheVariants.{BitOutside}
-use Rattle.refusal.proofs.Passed.{ok_passed}
 use Rattle.bitvector.specs.Sets.{set_of}
 use Rattle.bitvector.specs.Calls.{roomy, sound}
-
--- what a check that the code makes by `?` tells
-pub known : (test : Bool) (reason : Refusal) {r : Result Unit Refusal} → r ≡ check test reason Err (Ok tt) → r ≡ Ok tt → test ≡ true
-known test reason e f = (ok_passed test reason (Ok tt) (sym e ∙ f)).0
-
-pub below : (bit capacity : ℕ) {r : Result Unit Refusal} → r ≡ check (ltb bit capacity) BitOutside Err (Ok tt) → r ≡ Ok tt → bit < capacity
-below bit capacity e f = ltb-true bit capacity (known (ltb bit capacity) BitOutside e f)
 
 pub record Roomy (capacity : ℕ) (ws : List ℕ) : Type 0 where
   pub bound : capacity ≤ max_bits

@@ -12,7 +12,7 @@ counted_from base s n = chain (λ k. cond (s k) ((base + k) ∷ []) []) n
 
 -- the numbers of the set digits of a word, rising, the lowest digit's number being base
 unfoldable pub numbers_in : ℕ → ℕ → List ℕ
-numbers_in base w = chain (λ k. cond (eqb (digit w k) 1) ((base + k) ∷ []) []) 64
+numbers_in base w = counted_from base (λ k. eqb (digit w k) 1) 64
 
 -- they stand in the store from `place` on, and the place after them is told
 pub record WordListed (base w place : ℕ) (out : List ℕ) (next : ℕ) (after : List ℕ) : Type 0 where

@@ -7,7 +7,7 @@ ghost use Rattle.bitvector.specs.Calls.{new_call, ones_call, is_empty_call, len_
 ghost use Rattle.bitvector.specs.Calls.{contains_call, insert_call, remove_call, insert_all_call, eq_left_call, members_call};
 
 use crate::checks::{check_bit, check_room, check_sound};
-use crate::steps::{has_at_most, join, list_bits, needed, same_left};
+use crate::steps::{has_at_most, is_clear, join, list_bits, needed, same_left};
 use refusal::Refusal;
 use words::{add_bit, count_ones, drop_bit, fill, has_bit, u64s};
 
@@ -42,7 +42,7 @@ pub fn is_empty(capacity: u64, words: &[u64]) -> Result<bool, Refusal>
     ensures { said result untouched ≡ is_empty_call capacity words.now }
 {
     check_sound(capacity, words)?;
-    Ok(needed(capacity, words).iter().all(|word| *word == 0))
+    Ok(is_clear(needed(capacity, words)))
 }
 
 // How many numbers the set has.

@@ -1,5 +1,5 @@
 // The steps of the calls, on words that are known to be there.
-ghost use Rattle.std.specs.Prelude.{◌≡◌, ◌+◌, ◌*◌, ◌≤◌, leb, ltb, length, take};
+ghost use Rattle.std.specs.Prelude.{◌≡◌, ◌+◌, ◌*◌, ◌≤◌, eqb, leb, ltb, length, take};
 ghost use Rattle.std.specs.Int.Count.{ones};
 ghost use Rattle.bounds.specs.Bounds.{max_bits};
 ghost use Rattle.laws.specs.Counting.{rank};
@@ -19,6 +19,18 @@ pub(crate) fn needed(capacity: u64, words: &[u64]) -> &[u64]
     ensures count { length result.now ≡ words_for capacity }
 {
     &words[..u64s(capacity) as usize]
+}
+
+// Whether no bit is set in the words. A `for`: where all are 0, `all` takes 1.25 times as long.
+pub(crate) fn is_clear(words: &[u64]) -> bool
+    ensures { result ≡ eqb (rank (has words.now) (64 * length words.now)) 0 }
+{
+    for word in words {
+        if *word != 0 {
+            return false;
+        }
+    }
+    true
 }
 
 // Whether a bit is set in the words.
@@ -100,6 +112,7 @@ pub(crate) fn join(words: &mut [u64], other: &[u64]) -> bool
     ensures { Joined (length words.old) words.old other.now result words.new }
 {
     let mut new = false;
+    // Over `words.iter_mut().zip(other)` a proof knows nothing of what is written.
     for (i, word) in words.iter_mut().enumerate() {
         let joined = *word | other[i];
         new |= joined != *word;
