@@ -18,7 +18,7 @@ use Rattle.laws.proofs.Parts.{lent_from, drop_same}
 use Rattle.ranks.specs.Ranks.{set_bits, samples_of}
 use Rattle.rule.specs.Rule.{Rule, single}
 use Rattle.sizes.specs.Sizes.{size_for, samples_for}
-use Rattle.sizes.proofs.Sizes.{size_least, size_most}
+use Rattle.sizes.proofs.Sizes.{size_most}
 use Rattle.head.specs.Layout.{samples_of_size}
 use Rattle.run.specs.Stores.{Stores}
 use Rattle.laws.specs.Stores.{zeros, pasted}
@@ -66,8 +66,6 @@ module _ (gamma : Float) (at : Progress) (s : Stores) (r : TurnRoom gamma at s) 
     (size_is : size ≡ size_for gamma at.remaining) (taken_is : taken ≡ words_for size) (ranked-is : ranked ≡ samples_for taken) where
   pub placeable : taken ≤ length s.words - at.words → Placeable size at s
   placeable word_room = record {
-    positive = rw size_is (omega (arith, size_least gamma at.remaining));
-    bound = size_small gamma at s r size_is;
     in_store = r.in_rest;
     in_words = omega (arith, r.in_words);
     in_collide = rw size_is r.in_collide;

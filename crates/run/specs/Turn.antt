@@ -16,8 +16,6 @@ use Rattle.run.specs.declared.Placed.{Placed}
 
 -- the words from the level's place on, and the collide store, are there and are 0
 pub record Placeable (size : ℕ) (at : Progress) (s : Stores) : Type 0 where
-  pub positive : 0 < size
-  pub bound : size ≤ max_bits
   pub in_store : at.remaining ≤ length s.rest
   pub in_words : at.words + words_for size ≤ length s.words
   pub in_collide : words_for size ≤ length s.collide

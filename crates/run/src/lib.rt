@@ -9,6 +9,7 @@ ghost use Rattle.run.specs.Run.{Begun, Ran};
 ghost use Rattle.run.specs.Turn.{Placeable, PlacedAt, Sampleable, SampledAt, TurnRoom, turned, level_turn};
 
 use bounds::{HEAD_SIZES, LEVEL_LIMIT};
+use level::Level;
 use mixer::Kind;
 use ranks::{part, sample_level};
 use refusal::Refusal;
@@ -89,7 +90,12 @@ impl Stores<'_> {
         if self.samples.len() - at.samples < ranked {
             return None;
         }
-        let remaining = self.place_at(kind, size, at);
+        let level = Level {
+            kind,
+            number: at.level,
+            size,
+        };
+        let remaining = self.place_at(level, at);
         let set = self.sample_at(taken, at);
         let next = Progress {
             level: at.level + 1,
@@ -102,21 +108,19 @@ impl Stores<'_> {
     }
 
     // Places the ids that come to the next level, which stand at the front of the rest store, in its words, and clears collide again; how many ids go on.
-    fn place_at(&mut self, kind: Kind, size: u64, at: Progress) -> usize
-        requires { Placeable size at (held self.old) }
+    fn place_at(&mut self, level: Level, at: Progress) -> usize
+        requires { Placeable level.size at (held self.old) }
         ensures same { SameStores self.old self.new }
-        ensures placed { PlacedAt (position kind at.level size) size at (held self.old) result (held self.new) }
+        ensures placed { PlacedAt (position level.kind level.number level.size) level.size at
+            (held self.old) result (held self.new) }
     {
         let kept = level::place(
-            kind,
-            at.level,
-            size,
-            at.remaining,
-            self.rest,
+            level,
+            &mut self.rest[..at.remaining],
             &mut self.words[at.words..],
             self.collide,
         );
-        fill(self.collide, u64s(size) as usize, 0);
+        fill(self.collide, u64s(level.size) as usize, 0);
         kept
     }
 
@@ -127,6 +131,7 @@ impl Stores<'_> {
         ensures sampled { SampledAt taken at (held self.old) result (held self.new) }
     {
         let samples = &mut self.samples[at.samples..];
+        // Lent by `&mut`, since a `&` to one field beside a `&mut` to another is not covered by the check.
         let words = &mut *self.words;
         sample_level(part(words, at.words, taken), at.set, samples)
     }

@@ -1,6 +1,7 @@
 -- `run::Stores::build_level` meets its contract. Assumes nothing.
 use native.Mathlib.Omega.{arith}
 use Rattle.head.specs.Index.{positions}
+use Rattle.sizes.proofs.Sizes.{size_least}
 use Rattle.run.proofs.Turns.{size_small, words_short, samples_short, placeable, sampleable, placed}
 use Rattle.run.proofs.Stores.build_level.Goals as goal
 
@@ -17,6 +18,12 @@ returns-then-self-at-clause-turn c =
 pub returns-then-self-at-2-clause-turn : goal.returns-then-self-at-2-clause-turn
 returns-then-self-at-2-clause-turn c =
     samples_short _ _ _ c.requires c.size-size.ensures c.u64s-taken.ensures c.samples-ranked.ensures (positions c.args.kind) c.if-self-at-2.true
+
+pub invariant_of-level : goal.invariant_of-level
+invariant_of-level c = record {
+  positive = omega (arith, c.size-size.ensures, size_least c.args.gamma c.args.at.remaining);
+  bound = size_small _ _ _ c.requires c.size-size.ensures;
+}
 
 pub place_at-remaining-requires : goal.place_at-remaining-requires
 place_at-remaining-requires c =
