@@ -9,32 +9,22 @@ use native.Mathlib.Numerals.{add-one}
 use native.Mathlib.Omega.{arith}
 use lib.ListN.{length, get_or, take, drop, length-take, length-drop}
 use lib.Seq.{get_or-take}
-use borrow.Author.Tests.{le-leb, lt-leb, lt-ltb, le-ltb}
+use borrow.Author.Tests.{le-leb, lt-ltb}
 use Rattle.bounds.specs.Bounds.{max_ids, max_bits, min_bits, max_levels, sample_bits}
 use Rattle.laws.specs.Bits.{has, words_for}
 use Rattle.laws.proofs.Sums.{sum_mono}
 use Rattle.ranks.specs.Ranks.{ones_from}
-use Rattle.refusal.specs.declared.Refusal.TheVariants.{UnfitRow}
 use Rattle.rule.proofs.Reader.{first_is, first_none}
 use Rattle.head.specs.Layout.{samples_of_size, size_at, level_words, level_samples, fit}
-use Rattle.finding.specs.Find.{found, nothing, refused_for, row_answer, level_answer, find_in}
+use Rattle.finding.specs.Find.{found, nothing, row_answer, level_answer, find_in}
 use Rattle.head.proofs.Fits.{fit_known, Walk}
 
 -- ---- the row of a set bit
 
-module _ (count : ℕ) (ws ss : List ℕ) (i p : ℕ) where
-  pub sample_high : max_ids < get_or ss (p / sample_bits) 0 → row_answer count ws ss i p ≡ refused_for UnfitRow
-  unfolding row_answer
-  sample_high h = rw (lt-leb (get_or ss (p / sample_bits) 0) max_ids h)
-
-  pub row_high : get_or ss (p / sample_bits) 0 ≤ max_ids → count ≤ get_or ss (p / sample_bits) 0 + ones_from ws p → row_answer count ws ss i p ≡ refused_for UnfitRow
-  unfolding row_answer
-  row_high s h = rw (le-leb (get_or ss (p / sample_bits) 0) max_ids s, le-ltb (get_or ss (p / sample_bits) 0 + ones_from ws p) count h)
-
-  pub row_good : get_or ss (p / sample_bits) 0 ≤ max_ids → get_or ss (p / sample_bits) 0 + ones_from ws p < count
-      → row_answer count ws ss i p ≡ found (record { row = get_or ss (p / sample_bits) 0 + ones_from ws p; level = i; position = p })
-  unfolding row_answer
-  row_good s h = rw (le-leb (get_or ss (p / sample_bits) 0) max_ids s, lt-ltb (get_or ss (p / sample_bits) 0 + ones_from ws p) count h)
+pub row_good : (count : ℕ) (ws ss : List ℕ) (i p : ℕ) → get_or ss (p / sample_bits) 0 ≤ max_ids → get_or ss (p / sample_bits) 0 + ones_from ws p < count
+    → row_answer count ws ss i p ≡ found (record { row = get_or ss (p / sample_bits) 0 + ones_from ws p; level = i; position = p })
+unfolding row_answer
+row_good count ws ss i p s h = rw (le-leb (get_or ss (p / sample_bits) 0) max_ids s, lt-ltb (get_or ss (p / sample_bits) 0 + ones_from ws p) count h)
 
 -- ---- one level of a head that fits, where the levels before it are walked over
 

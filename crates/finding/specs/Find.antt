@@ -1,6 +1,5 @@
 -- The row of any number in levels that lie in stores, wherever they come from.
 use Rattle.std.specs.Prelude.{ℕ, ◌+◌, ◌/◌, ◌&&◌, List, leb, ltb, get_or, Result, Ok, Err, Some, None}
-use Rattle.std.specs.Prelude as S
 use Rattle.std.proofs.Math.Option.{Option, none, some}
 use Rattle.bounds.specs.Bounds.{max_ids, sample_bits}
 use Rattle.laws.specs.Bits.{has}
@@ -23,7 +22,7 @@ abbrev pub refused_for : Refusal → Answer
 refused_for r = refused (number_of r) (value_of r)
 
 -- the answer that a result is
-abbrev pub answer_of : Result (S.Option Place) Refusal → Answer
+abbrev pub answer_of : Result (Rattle.std.specs.Prelude.Option Place) Refusal → Answer
 answer_of (Ok (Some p)) = found (record { row = p.row; level = p.level; position = p.position })
 answer_of (Ok None) = nothing
 answer_of (Err r) = refused_for r

@@ -82,6 +82,7 @@ impl<'a> Index<'a> {
 }
 
 // The row of a set bit, from the words and samples of its level.
+#[tactic(auto, unfolding(crate::specs::Find::row_answer), using(ranks::proofs::Ones::ones_from_le))]
 fn row_at(
     count: u64,
     words: &[u64],
