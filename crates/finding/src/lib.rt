@@ -62,10 +62,10 @@ impl<'a> Index<'a> {
             ≡ find_in (position self.now.kind) self.now.head.now.count (size_at self.now.head.now.sizes)
             self.now.words.now self.now.samples.now id self.now.head.now.levels }
     {
-        let levels = self.head.levels as usize;
+        let sizes = &self.head.sizes[..self.head.levels as usize];
         let mut at: usize = 0;
         let mut sampled: usize = 0;
-        for (i, &size) in self.head.sizes[..levels].iter().enumerate() {
+        for (i, &size) in sizes.iter().enumerate() {
             let taken = u64s(size) as usize;
             let level = part(self.words, at, taken);
             let position = hashmod(self.kind, i as u64, id, size);

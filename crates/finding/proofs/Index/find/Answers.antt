@@ -6,11 +6,11 @@ use Rattle.head.proofs.Fits.{fit_known, walk_more}
 use Rattle.finding.proofs.Finds.{turn, spot_word, spot-sample, still_none, found_none, here_found}
 use Rattle.finding.proofs.Index.find.Goals as goal
 
-pub shared_ref_as_front-size-items : goal.shared_ref_as_front-size-items
-shared_ref_as_front-size-items c = let f = fit_known _ _ _ _ _ c.args.self.now.fits in omega (arith, f.bounds.few_levels)
+pub shared_ref_as_front-sizes : goal.shared_ref_as_front-sizes
+shared_ref_as_front-sizes c = let f = fit_known _ _ _ _ _ c.args.self.now.fits in omega (arith, f.bounds.few_levels)
 
-pub offset_bounds-size-items-i : goal.offset_bounds-size-items-i
-offset_bounds-size-items-i c = let t = turn _ _ _ _ _ _ _ _ c.args.self.now.fits (omega arith) c.loop-i.invariant.0 in omega (arith, t.here, t.few_levels)
+pub offset_bounds-sizes-i : goal.offset_bounds-sizes-i
+offset_bounds-sizes-i c = let t = turn _ _ _ _ _ _ _ _ c.args.self.now.fits (omega arith) c.loop-i.invariant.0 in omega (arith, t.here, t.few_levels)
 
 pub u64s-taken-requires : goal.u64s-taken-requires
 u64s-taken-requires c = let t = turn _ _ _ _ _ _ _ _ c.args.self.now.fits (omega arith) c.loop-i.invariant.0 in omega (arith, t.size_is, t.most)
