@@ -10,7 +10,7 @@ use native.Mathlib.Omega.{arith}
 use lib.ListN.{length, get_or, take, drop, length-take, length-drop}
 use lib.Seq.{get_or-take}
 use borrow.Author.Tests.{le-leb, lt-ltb}
-use Rattle.bounds.specs.Bounds.{max_ids, max_bits, min_bits, max_levels, sample_bits}
+use Rattle.bounds.specs.Bounds.{max_ids, max_bits, min_bits, sample_bits}
 use Rattle.laws.specs.Bits.{has, words_for}
 use Rattle.laws.proofs.Sums.{sum_mono}
 use Rattle.ranks.specs.Ranks.{ones_from}
@@ -31,7 +31,6 @@ row_good count ws ss i p s h = rw (le-leb (get_or ss (p / sample_bits) 0) max_id
 -- its size, and its part of each store
 pub record Turn (levels : ℕ) (sizes ws ss : List ℕ) (i at sampled : ℕ) : Type 0 where
   pub here : i < levels
-  pub few_levels : levels ≤ max_levels
   pub size_is : get_or (take levels sizes) i 0 ≡ size_at sizes i
   pub least : min_bits ≤ size_at sizes i
   pub most : size_at sizes i ≤ max_bits
@@ -47,7 +46,6 @@ turn count levels sizes ws ss i at sampled e l w =
     let h : i < levels = omega (arith, length-take levels sizes) in
     record {
       here = h;
-      few_levels = f.bounds.few_levels;
       size_is = get_or-take levels sizes i 0 h;
       least = f.bounds.size_least i h;
       most = f.bounds.size_most i h;

@@ -57,6 +57,7 @@ impl<'a> Index<'a> {
     }
 
     // The row of an id.
+    #[tactic(auto, using(head::proofs::Fits::fit_known))]
     pub fn find(&self, id: u64) -> Result<Option<Place>, Refusal>
         ensures { answer_of result
             ≡ find_in (position self.now.kind) self.now.head.now.count (size_at self.now.head.now.sizes)

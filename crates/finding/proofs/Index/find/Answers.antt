@@ -2,15 +2,9 @@
 use Rattle.std.proofs.Common.{arith, sym, ◌∙◌}
 use Rattle.mixer.specs.Position.{position}
 use Rattle.mixer.proofs.Positions.{position-lt}
-use Rattle.head.proofs.Fits.{fit_known, walk_more}
+use Rattle.head.proofs.Fits.{walk_more}
 use Rattle.finding.proofs.Finds.{turn, spot_word, spot-sample, still_none, found_none, here_found}
 use Rattle.finding.proofs.Index.find.Goals as goal
-
-pub shared_ref_as_front-sizes : goal.shared_ref_as_front-sizes
-shared_ref_as_front-sizes c = let f = fit_known _ _ _ _ _ c.args.self.now.fits in omega (arith, f.bounds.few_levels)
-
-pub offset_bounds-sizes-i : goal.offset_bounds-sizes-i
-offset_bounds-sizes-i c = let t = turn _ _ _ _ _ _ _ _ c.args.self.now.fits (omega arith) c.loop-i.invariant.0 in omega (arith, t.here, t.few_levels)
 
 pub u64s-taken-requires : goal.u64s-taken-requires
 u64s-taken-requires c = let t = turn _ _ _ _ _ _ _ _ c.args.self.now.fits (omega arith) c.loop-i.invariant.0 in omega (arith, t.size_is, t.most)
@@ -64,18 +58,6 @@ returns-then-has_bit c =
     c.loop-i.invariant.1
     _
     (rw (c.samples-ranked.ensures, c.u64s-taken.ensures, t.size_is) at c.part-samples.ensures)
-
-pub overflow_add-at : goal.overflow_add-at
-overflow_add-at c =
-    let w = c.loop-i.invariant.0 in
-    let t = turn _ _ _ _ _ _ _ _ c.args.self.now.fits (omega arith) w in
-    omega (arith, t.here, t.few_levels, t.size_is, t.most, w.words_few, c.u64s-taken.ensures)
-
-pub overflow_add-sampled : goal.overflow_add-sampled
-overflow_add-sampled c =
-    let w = c.loop-i.invariant.0 in
-    let t = turn _ _ _ _ _ _ _ _ c.args.self.now.fits (omega arith) w in
-    omega (arith, t.here, t.few_levels, t.size_is, t.most, w.samples_few, c.u64s-taken.ensures, c.samples-ranked.ensures)
 
 pub loop-i-preserved : goal.loop-i-preserved
 loop-i-preserved c =
