@@ -1,18 +1,12 @@
 -- `lookup::lookup` meets its contract. Assumes nothing.
-use mathlib.Core.Path.{sym, ◌∙◌}
-use Rattle.head.proofs.Fits.{fit_known}
-use Rattle.lookup.proofs.Lookups.{lookup_unknown, lookup-fit, lookup_unfit}
+use Rattle.std.proofs.Common.{rules, ◌∙◌}
+use Rattle.lookup.proofs.Lookups.{lookup_by}
 use Rattle.lookup.proofs.lookup.Goals as goal
 
-pub returns-in_default : goal.returns-in_default
-returns-in_default c = lookup_unknown _ _ _ _ (sym c.in_default.ensures)
+pub returns-in_err-of : goal.returns-in_err-of
+returns-in_err-of c = let e = rw c.in_err-of.ensures.err at (lookup_by c.args.head.now c.args.words.now c.args.samples.now c.args.id) in search rules
 
-pub find-requires : goal.find-requires
-find-requires c = fit_known _ _ _ _ _ (sym c.is_fit.ensures ∙ c.if-is_fit.true)
-
-pub returns-then-is_fit : goal.returns-then-is_fit
-returns-then-is_fit c =
-    c.find.ensures ∙ lookup-fit _ _ _ _ _ (sym c.in-Known.ensures) (sym c.is_fit.ensures ∙ c.if-is_fit.true)
-
-pub returns-else-is_fit : goal.returns-else-is_fit
-returns-else-is_fit c = lookup_unfit _ _ _ _ _ (sym c.in-Known.ensures) (sym c.is_fit.ensures ∙ c.if-is_fit.false)
+pub returns : goal.returns
+returns c =
+    let (k, h, w, s) = c.in_ok-of.ensures.ok in
+    (rw (h, w, s) at c.find.ensures) ∙ (rw k at (lookup_by c.args.head.now c.args.words.now c.args.samples.now c.args.id))
