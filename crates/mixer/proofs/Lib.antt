@@ -1,3 +1,4 @@
 pub mod KindNumbers
+pub mod Words
 pub mod Positions
 pub mod OneToOne

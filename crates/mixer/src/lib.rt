@@ -2,7 +2,7 @@
 // of a level, and the position of the folded hash. The names are boomphf's where it has one.
 #![tactic(auto)]
 
-ghost use Rattle.std.specs.Prelude.{◌≡◌, ◌≤◌};
+ghost use Rattle.std.specs.Prelude.{◌≡◌, ◌*◌, ◌%◌, ◌^◌, ◌≤◌};
 ghost use Rattle.bounds.specs.Bounds.{max_bits};
 ghost use Rattle.mixer.specs.Kinds.{kind_of};
 ghost use Rattle.mixer.specs.Mixer.{mixed, seed_word, hashed};
@@ -32,13 +32,26 @@ impl TryFrom<u64> for Kind {
     }
 }
 
+// a * b modulo 2^64. The halves' products fit, and that of the two high halves falls away. From halves and not by the integer's own method, as the list of
+// forms in docs/DECISIONS.md asks.
+pub fn wrapping_mul(a: u64, b: u64) -> u64
+    ensures { result ≡ a * b % 2 ^ 64 }
+{
+    let high_a = a / 0x1_0000_0000;
+    let low_a = a % 0x1_0000_0000;
+    let high_b = b / 0x1_0000_0000;
+    let low_b = b % 0x1_0000_0000;
+    let middle = (high_a * low_b).wrapping_add(low_a * high_b);
+    (middle % 0x1_0000_0000 * 0x1_0000_0000).wrapping_add(low_a * low_b)
+}
+
 // The plain mixer.
 pub fn mix(id: u64, seed: u64) -> u64
     ensures { result ≡ mixed id seed }
 {
     let z = id.wrapping_add(seed).wrapping_add(0x9e37_79b9_7f4a_7c15);
-    let y = (z ^ (z >> 30)).wrapping_mul(0xbf58_476d_1ce4_e5b9);
-    let x = (y ^ (y >> 27)).wrapping_mul(0x94d0_49bb_1331_11eb);
+    let y = wrapping_mul(z ^ (z >> 30), 0xbf58_476d_1ce4_e5b9);
+    let x = wrapping_mul(y ^ (y >> 27), 0x94d0_49bb_1331_11eb);
     x ^ (x >> 31)
 }
 
