@@ -60,10 +60,7 @@ fn check(gamma: f64, ids: u64, collide: u64, rest: u64) -> Result<(), Refusal>
     if ids > MAX_IDS {
         return Err(Refusal::TooManyIds);
     }
-    if ids > rest {
-        return Err(Refusal::ShortWorkStore);
-    }
-    if u64s(sizes::size(gamma, ids)) > collide {
+    if ids > rest || u64s(sizes::size(gamma, ids)) > collide {
         return Err(Refusal::ShortWorkStore);
     }
     Ok(())
