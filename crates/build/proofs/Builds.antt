@@ -2,19 +2,18 @@
 use mathlib.Core.Path.{◌≡◌, refl, ap, subst, ◌∙◌}
 use mathlib.Core.Bool.{true, false}
 use mathlib.Core.List.{List}
-use Prim.Native.Nat.{ℕ, ◌≤◌, ◌<◌}
+use Prim.Native.Nat.{ℕ, ◌≤◌}
 use lib.Ieee.{Float}
 use lib.ListN.{length, take, drop, length-append, length-drop, length-replicate}
 use lib.Seq.{take_at}
 use native.Mathlib.Omega.{arith}
-use borrow.Author.Tests.{le-leb, lt-leb, leb-true, not-true}
+use borrow.Author.Tests.{le-leb, leb-true, not-true}
 use Rattle.std.specs.Prelude.{Result, Ok, Err}
 use Rattle.bounds.specs.Bounds.{max_ids, level_limit, head_sizes}
 use Rattle.laws.specs.Bits.{words_for}
 use Rattle.laws.proofs.Cases.{both}
 use Rattle.refusal.specs.Answers.{refused}
 use Rattle.refusal.specs.declared.Refusal.{Refusal}
-use Rattle.refusal.specs.declared.Refusal.TheVariants.{GammaTooSmall, GammaTooLarge, TooManyIds, ShortWorkStore}
 use Rattle.laws.specs.Stores.{fronted, zeros}
 use Rattle.rule.specs.Rule.{RunEnd, built, no_room, ids_left, run}
 use Rattle.sizes.specs.Gamma.{above_min, above_max, Allowed}
@@ -29,36 +28,13 @@ use Rattle.head.specs.Index.{no_head, rule_of, room_of}
 use Rattle.run.specs.Run.{answer_of, Begun, Ran}
 use Rattle.build.specs.Ending.{prepared, after_run}
 
--- ---- the checks in their turn
+-- ---- checks that are passed
 
-module _ (gamma : Float) (n collide rest : ℕ) where
-  pub too_small : above_min gamma ≡ false → Err GammaTooSmall ≡ build_checks gamma n collide rest
-  unfolding build_checks
-  too_small a = rw a
-
-  module _ (a : above_min gamma ≡ true) where
-    pub too_large : above_max gamma ≡ true → Err GammaTooLarge ≡ build_checks gamma n collide rest
-    unfolding build_checks
-    too_large b = rw (a, b)
-
-    module _ (b : above_max gamma ≡ false) where
-      pub too_many : max_ids < n → Err TooManyIds ≡ build_checks gamma n collide rest
-      unfolding build_checks
-      too_many h = rw (a, b, lt-leb n max_ids h)
-
-      module _ (few : n ≤ max_ids) where
-        pub rest_short : rest < n → Err ShortWorkStore ≡ build_checks gamma n collide rest
-        unfolding build_checks
-        rest_short h = rw (a, b, le-leb n max_ids few, lt-leb n rest h)
-
-        module _ (in_rest : n ≤ rest) where
-          pub collide_short : collide < words_for (size_for gamma n) → Err ShortWorkStore ≡ build_checks gamma n collide rest
-          unfolding build_checks
-          collide_short h = rw (a, b, le-leb n max_ids few, le-leb n rest in_rest, lt-leb (words_for (size_for gamma n)) collide h)
-
-          pub checked : words_for (size_for gamma n) ≤ collide → Ok tt ≡ build_checks gamma n collide rest
-          unfolding build_checks
-          checked h = rw (a, b, le-leb n max_ids few, le-leb n rest in_rest, le-leb (words_for (size_for gamma n)) collide h)
+pub checked : (gamma : Float) (n collide rest : ℕ) → above_min gamma ≡ true → above_max gamma ≡ false → n ≤ max_ids → n ≤ rest → words_for (size_for gamma n) ≤ collide
+    → Ok tt ≡ build_checks gamma n collide rest
+unfolding build_checks
+checked gamma n collide rest a b few in_rest h =
+    rw (a, b, le-leb n max_ids few, le-leb n rest in_rest, le-leb (words_for (size_for gamma n)) collide h)
 
 -- ---- a build that passes the checks
 

@@ -47,6 +47,7 @@ pub fn build(
 }
 
 // The checks 1 to 4, of so many ids and of work stores of so many places.
+#[tactic(auto, unfolding(crate::specs::Build::build_checks))]
 fn check(gamma: f64, ids: u64, collide: u64, rest: u64) -> Result<(), Refusal>
     ensures { result ≡ build_checks gamma ids collide rest }
 {
@@ -59,10 +60,7 @@ fn check(gamma: f64, ids: u64, collide: u64, rest: u64) -> Result<(), Refusal>
     if ids > MAX_IDS {
         return Err(Refusal::TooManyIds);
     }
-    if ids > rest {
-        return Err(Refusal::ShortWorkStore);
-    }
-    if u64s(sizes::size(gamma, ids)) > collide {
+    if ids > rest || u64s(sizes::size(gamma, ids)) > collide {
         return Err(Refusal::ShortWorkStore);
     }
     Ok(())

@@ -84,10 +84,9 @@ impl Stores<'_> {
         let size = sizes::size(gamma, at.remaining as u64);
         let taken = u64s(size) as usize;
         let ranked = sizes::samples(taken as u64) as usize;
-        if self.words.len() - at.words < taken {
-            return None;
-        }
-        if self.samples.len() - at.samples < ranked {
+        let word_room = self.words.len() - at.words;
+        let sample_room = self.samples.len() - at.samples;
+        if word_room < taken || sample_room < ranked {
             return None;
         }
         let level = Level {
