@@ -10,6 +10,7 @@ use head::Head;
 use refusal::Refusal;
 
 // Looks an id up. A foreign id may get a row too: a row proves no membership.
+#[tactic(auto, using(crate::proofs::Lookups::lookup_refused, crate::proofs::Lookups::lookup_found))]
 pub fn lookup(
     head: &Head,
     words: &[u64],
