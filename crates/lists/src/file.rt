@@ -1,112 +1,105 @@
-// A list of answers, read from a file: lines of numbers in decimal, with one space between two.
-use crate::line::MOST;
-use mixer::{mix, wrapping_mul};
+// A list of answers, read from a file: lines of numbers in decimal, with one space between two, and a check of them.
+ghost use Rattle.std.specs.Prelude.{◌≤◌};
+ghost use Rattle.lists.specs.declared.file.TheConstants.{BUFFER};
+
+use crate::line::{Line, MOST};
+use mixer::mix;
 use std::io::Read;
 
-// Where reading of a file stands: the bytes of the buffer that are still to be read, and the check of all bytes before.
-#[derive(Clone, Copy)]
-pub struct Cursor {
-    pub at: usize,
-    pub end: usize,
-    pub check: u64,
-}
-
-#[derive(Clone, Copy)]
-pub enum Next {
-    Byte(u8, Cursor),
-    End,
-}
-
-#[derive(Clone, Copy)]
-pub enum Line {
-    // So many numbers, at the front of the store, and the place after them.
-    Numbers(usize, Cursor),
-    Broken,
-}
-
 // No line has more bytes.
-const LONGEST: u64 = 1_000_000;
+const LONGEST: usize = 1_000_000;
 
-// A store for the numbers of a line.
-pub fn numbers() -> [u64; MOST] {
-    [0; MOST]
+// How many bytes are read at once.
+const BUFFER: usize = 4096;
+
+// The bytes of a file, which ends too where it cannot be read. The buffer is a part of it, since that of std's BufReader is on the heap.
+#[derive(Drop)]
+struct Bytes<R> {
+    file: R,
+    buffer: [u8; BUFFER],
+    // Where the bytes of the buffer that are still to be read begin and end.
+    at: usize,
+    end: usize,
+    ghost ordered: { at ≤ end },
+    ghost inside: { end ≤ BUFFER },
 }
 
-pub fn start() -> Cursor {
-    Cursor {
-        at: 0,
-        end: 0,
-        check: 0,
-    }
-}
+impl<R: Read + Drop> Iterator for Bytes<R> {
+    type Item = u8;
 
-// The next byte of the file, which ends too where it cannot be read.
-pub fn next_byte(file: &mut impl Read, place: Cursor, buffer: &mut [u8; 4096]) -> Next {
-    let at = place.at;
-    if at < place.end {
-        if at < 4096 {
-            return past(place, buffer[at], at + 1, place.end);
+    fn next(&mut self) -> Option<u8> {
+        if self.at == self.end {
+            self.at = 0;
+            self.end = self.file.read(&mut self.buffer).unwrap_or(0);
         }
+        let byte = *self.buffer[..self.end].get(self.at)?;
+        self.at += 1;
+        Some(byte)
     }
-    let end = file.read(buffer).unwrap_or(0);
-    if end == 0 {
-        return Next::End;
-    }
-    past(place, buffer[0], 1, end)
 }
 
-// The byte, and the place past it.
-fn past(place: Cursor, byte: u8, at: usize, end: usize) -> Next {
-    let next = Cursor {
-        at,
-        end,
-        check: mix(place.check ^ byte as u64, 0),
-    };
-    Next::Byte(byte, next)
+// A list that cannot be read, or was changed.
+#[derive(Clone, Copy, Debug)]
+pub struct Broken;
+
+// A list that is read line by line.
+#[derive(Drop)]
+pub struct List<R> {
+    bytes: Bytes<R>,
+    // The check of all bytes before.
+    check: u64,
+    // The numbers of the last line, and past them what was there before.
+    numbers: [u64; MOST],
 }
 
-// The next line's numbers.
-pub fn read_line(
-    file: &mut impl Read,
-    place: Cursor,
-    buffer: &mut [u8; 4096],
-    numbers: &mut [u64; MOST],
-) -> Line {
-    let mut next = place;
-    let mut count: usize = 0;
-    let mut value: u64 = 0;
-    let mut left = LONGEST;
-    while left > 0 {
-        left -= 1;
-        let Next::Byte(byte, after) = next_byte(file, next, buffer) else {
-            return Line::Broken;
+impl<R: Read + Drop> List<R> {
+    pub fn new(file: R) -> List<R> {
+        let bytes = Bytes {
+            file,
+            buffer: [0; BUFFER],
+            at: 0,
+            end: 0,
         };
-        next = after;
-        if is_digit(byte) {
-            value = with_digit(value, byte);
-        } else {
-            if count >= MOST {
-                return Line::Broken;
-            }
-            numbers[count] = value;
-            count += 1;
-            value = 0;
-            if byte == b'\n' {
-                return Line::Numbers(count, next);
-            }
+        List {
+            bytes,
+            check: 0,
+            numbers: [0; MOST],
         }
     }
-    Line::Broken
-}
 
-fn is_digit(byte: u8) -> bool {
-    if byte < b'0' {
-        return false;
+    // The next line; none, where it is the one number that ends the list: the check of all bytes before it, after which nothing may come.
+    pub fn next_line(&mut self) -> Result<Option<Line<'_>>, Broken> {
+        let check = self.check;
+        let len = self.read_line().ok_or(Broken)?;
+        if len > 1 {
+            return Ok(Some(Line::new(&self.numbers, len)));
+        }
+        if self.numbers[0] == check && self.bytes.next().is_none() {
+            Ok(None)
+        } else {
+            Err(Broken)
+        }
     }
-    byte <= b'9'
-}
 
-// The number with one decimal digit more.
-fn with_digit(value: u64, digit: u8) -> u64 {
-    std::num::wrapping_add_u64(wrapping_mul(value, 10), digit as u64 % 16)
+    // How many numbers the next line has, which are put at the front of the store. Its digits are taken one by one: they stand in no text that could be parsed, and
+    // any number is read, also one that is too large, or has no digit.
+    fn read_line(&mut self) -> Option<usize> {
+        let mut len = 0;
+        let mut value: u64 = 0;
+        for byte in self.bytes.by_ref().take(LONGEST) {
+            self.check = mix(self.check ^ u64::from(byte), 0);
+            match char::from(byte).to_digit(10) {
+                Some(digit) => value = value.wrapping_mul(10).wrapping_add(u64::from(digit)),
+                None => {
+                    *self.numbers.get_mut(len)? = value;
+                    len += 1;
+                    value = 0;
+                    if byte == b'\n' {
+                        return Some(len);
+                    }
+                }
+            }
+        }
+        None
+    }
 }

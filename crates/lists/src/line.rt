@@ -1,55 +1,70 @@
 // The numbers of a line, by their places. No place is out of range: a line that says too much of itself has zeros there, or parts with nothing in them, and its
 // case does not hold.
-ghost use Rattle.std.specs.Prelude.{◌≤◌};
+ghost use Rattle.std.specs.Prelude.{◌≤◌, length};
 ghost use Rattle.lists.specs.Lines.{most};
 
 // No line has more numbers: `most` in specs/Lines.antt.
 pub const MOST: usize = 8192;
 
-// The number at a place; 0 past the end.
-pub fn number(line: &[u64], at: usize) -> u64 {
-    if at < line.len() { line[at] } else { 0 }
+// How many numbers are lent past a line.
+const PAST: usize = 8;
+
+// A line: its numbers, and others past them. Calls are lent these too, and may not touch them.
+#[derive(Clone, Copy)]
+pub struct Line<'a> {
+    len: usize,
+    lent: &'a [u64],
+    ghost fits: { length lent.now ≤ most },
 }
 
-// The number at a place that says how many of something the line has: never more than a line can have.
-pub fn many(line: &[u64], at: usize) -> usize
-    ensures { result ≤ most }
-{
-    let n = number(line, at);
-    if n < MOST as u64 { n as usize } else { MOST }
-}
-
-// n numbers from a place on; none, where there are fewer.
-pub fn part(line: &[u64], at: usize, n: usize) -> &[u64] {
-    if at > line.len() {
-        return &line[..0];
+impl<'a> Line<'a> {
+    // The line that has so many numbers, at the front of this store.
+    pub fn new(store: &'a [u64; MOST], len: usize) -> Line<'a> {
+        let end = len.saturating_add(PAST).min(MOST);
+        Line {
+            len,
+            lent: &store[..end],
+        }
     }
-    if n > line.len() - at {
-        return &line[..0];
-    }
-    let end = at + n;
-    &line[at..end]
-}
 
-// The numbers from a place on; none, where there are fewer.
-pub fn past(line: &[u64], at: usize) -> &[u64] {
-    if at < line.len() {
-        return &line[at..];
+    pub fn len(self) -> usize {
+        self.len
     }
-    &line[..0]
-}
 
-// The numbers of a store from a place on, to be written; all, where there are fewer.
-pub fn after(store: &mut [u64], at: usize) -> &mut [u64] {
-    if at < store.len() {
-        return &mut store[at..];
+    // The number at a place; 0 past the end.
+    pub fn number(self, at: usize) -> u64 {
+        self.lent.get(at).copied().unwrap_or(0)
     }
-    store
-}
 
-// Makes a store a copy of the line.
-pub fn copy(line: &[u64], store: &mut [u64]) {
-    for i in 0..store.len() {
-        store[i] = number(line, i);
+    // The number at a place that says how many of something the line has: never more than a line can have.
+    pub fn many(self, at: usize) -> usize
+        ensures { result ≤ most }
+    {
+        self.number(at).min(MOST as u64) as usize
+    }
+
+    // n numbers from a place on; none, where there are fewer.
+    pub fn part(self, at: usize, n: usize) -> &'a [u64] {
+        self.past(at).get(..n).unwrap_or(&[])
+    }
+
+    // The numbers from a place on; none, where there are fewer.
+    pub fn past(self, at: usize) -> &'a [u64] {
+        self.lent.get(at..).unwrap_or(&[])
+    }
+
+    // A copy of the line, and of what is lent past it, at the front of a store.
+    pub fn copy_to(self, store: &mut [u64; MOST]) -> &mut [u64] {
+        let n = self.lent.len();
+        let copy = &mut store[..n];
+        copy.copy_from_slice(self.lent);
+        copy
+    }
+
+    // Whether a store that was a copy of the line is the line still, but for these numbers, which stand from a place on.
+    pub fn is_left(self, store: &[u64], at: usize, moved: &[u64]) -> bool {
+        let front = self.lent.iter().take(at);
+        let rest = self.lent.iter().skip(at).skip(moved.len());
+        store.iter().eq(front.chain(moved).chain(rest))
     }
 }
