@@ -1,6 +1,8 @@
 // Cases of one level.
+use level::Level;
 use lists::left::{after, is_just};
 use lists::line::Line;
+use mixer::Kind;
 
 // No level of a line has more bits.
 const LARGEST: u64 = 1024;
@@ -16,21 +18,17 @@ pub fn place(line: Line<'_>, store: &mut [u64]) -> bool {
     }
     let need = words::u64s(size) as usize;
     let ids = line.many(2);
-    let rest = after(store, 4);
-    if ids > rest.len() {
+    let Some(rest) = after(store, 4).get_mut(..ids) else {
         return false;
-    }
+    };
     let mut words = [0; WORDS];
     let mut collide = [0; WORDS];
-    let kept = level::place(
-        mixer::Kind::Plain,
-        line.number(0),
+    let level = Level {
+        kind: Kind::Plain,
+        number: line.number(0),
         size,
-        ids,
-        rest,
-        &mut words,
-        &mut collide,
-    );
+    };
+    let kept = level::place(level, rest, &mut words, &mut collide);
     let on = line.many(3);
     let at = 4 + ids;
     line.len() == at + 2 * need + on

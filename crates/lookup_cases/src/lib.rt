@@ -1,7 +1,7 @@
 // Cases of lookups: what the numbers of a line are, and whether the lookup for hosts answers as it says.
 #![tactic(auto)]
 
-use head::numbers::NUMBERS;
+use head::NUMBERS;
 use host::shawltide_lookup;
 use lists::line::Line;
 
