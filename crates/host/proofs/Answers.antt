@@ -16,10 +16,6 @@ pub refused-number : (r : Refusal) (value : ℕ) → number_for (number_of r) va
 refused-number r value = rw (ne_eqb (number_of r) 0 (not_none r))
 
 module _ {A After : Type 0} (value : A → ℕ) where
-  -- the number of an answer that is refused
-  pub told-refused : {answer : Result A Refusal} {r : Refusal} → answer ≡ Err r → refused_number (number_of r) ≡ of_told value answer
-  told-refused {r = r} e = sym (ap (of_told value) e ∙ refused-number r _)
-
   -- the number of an outcome does not depend on the stores
   told-number : (answer : Result A Refusal) (s : After) → of_told value answer ≡ of_outcome (told value answer s)
   told-number (Ok a) s = refl

@@ -1,12 +1,13 @@
 -- The flat calls, path by path: what each check refuses, and what the call itself leaves. Assumes nothing.
 use mathlib.Core.Path.{◌≡◌, refl, sym, ap, ◌∙◌}
+use mathlib.Core.Bool.{Bool, true, false, cond}
 use mathlib.Core.List.{List, [], ◌∷◌, ◌++◌}
 use Prim.Native.Nat.{ℕ, ◌-◌, ◌≤◌, ◌<◌}
 use native.Mathlib.Omega.{arith}
 use lib.Ieee.{Float}
 use lib.ListN.{length, set, take, drop}
 use lib.Seq.{sets-eq}
-use borrow.Author.Tests.{le-leb, lt-leb, eq-eqb, ne_eqb}
+use borrow.Author.Tests.{le-leb, lt-leb}
 use Rattle.laws.specs.Stores.{fronted}
 use Rattle.laws.proofs.Parts.{lent_from}
 use Rattle.refusal.specs.Table.{number_of}
@@ -15,7 +16,7 @@ use Rattle.refusal.specs.Answers.{Outcome, made, counted}
 use Rattle.refusal.specs.declared.Refusal.{Refusal}
 use Rattle.refusal.specs.declared.Refusal.TheVariants.{UnfitHead, ShortOutput}
 use Rattle.head.specs.declared.Head.{Head}
-use Rattle.head.specs.Numbers.{head_numbers, head_of, numbers_of}
+use Rattle.head.specs.Numbers.{head_of, numbers_of}
 use Rattle.run.specs.Stores.{Stores}
 use Rattle.build.specs.Build.{BuildEnd, built_of, build_call}
 use Rattle.finding.specs.declared.Place.{Place}
@@ -24,21 +25,41 @@ use Rattle.lookup.specs.Lookup.{lookup_call}
 use Rattle.rows.specs.Rows.{RowStores, row_stores, rows_call}
 use Rattle.image.specs.Image.{ReadAfter, read_of, write_call, read_call}
 use Rattle.host.specs.Numbers.{refused_number, of_made, of_counted, value_in}
-use Rattle.host.specs.Flat.{seen, out_places, place_places, answer_seen, flat_lookup, flat_rows, flat_built, head_made, end_seen, flat_build, flat_loaded, read_seen, flat_read, flat_write}
+use Rattle.host.specs.Flat.{seen, is_head, head_lent, out_places, place_places, answer_seen, flat_lookup, flat_rows, flat_built, head_made, end_seen, flat_build, flat_loaded, read_seen, flat_read, flat_write}
 use Rattle.host.proofs.Answers.{told-seen}
+
+-- ---- the head that a host lends
+
+module _ (ns : List ℕ) where
+  pub unheaded : None ≡ head_lent ns → is_head ns ≡ false
+  unfolding head_lent
+  unheaded e = go (is_head ns) refl e
+    where
+      go : (b : Bool) → is_head ns ≡ b → None ≡ cond b (Some (head_of ns)) None → is_head ns ≡ false
+      go true f g = let z : ◌≡◌ {A = ℕ} 0 1 = cc in absurd (omega arith)
+      go false f g = f
+
+  pub headed : {head : Head} → Some head ≡ head_lent ns → (is_head ns ≡ true) × (head ≡ head_of ns)
+  unfolding head_lent
+  headed {head} e = go (is_head ns) refl e
+    where
+      go : (b : Bool) → is_head ns ≡ b → Some head ≡ cond b (Some (head_of ns)) None → (is_head ns ≡ true) × (head ≡ head_of ns)
+      go true f g = (f, cc)
+      go false f g = let z : ◌≡◌ {A = ℕ} 0 1 = cc in absurd (omega arith)
 
 -- ---- a row list
 
 module _ (head ws ss ids rows marks : List ℕ) where
-  pub rows_unheaded : {n : ℕ} → (length head ≡ head_numbers → ⊥) → n ≡ refused_number (number_of UnfitHead)
+  pub rows_unheaded : {n : ℕ} → None ≡ head_lent head → n ≡ refused_number (number_of UnfitHead)
       → seen n (row_stores rows marks) ≡ flat_rows head ws ss ids rows marks
   unfolding flat_rows
-  rows_unheaded h e = rw (ne_eqb (length head) head_numbers h, e)
+  rows_unheaded h e = rw (unheaded head h, e)
 
-  pub rows_headed : {n : ℕ} {after : RowStores} (answer : Result Unit Refusal) → length head ≡ head_numbers → n ≡ of_made answer
-      → made answer after ≡ rows_call (head_of head) ws ss ids rows marks → seen n after ≡ flat_rows head ws ss ids rows marks
+  pub rows_headed : {n : ℕ} {lent : Head} {after : RowStores} (answer : Result Unit Refusal) → Some lent ≡ head_lent head → n ≡ of_made answer
+      → made answer after ≡ rows_call lent ws ss ids rows marks → seen n after ≡ flat_rows head ws ss ids rows marks
   unfolding flat_rows
-  rows_headed answer h e f = rw (eq-eqb (length head) head_numbers h) (told-seen (λ _. 0) answer e f)
+  rows_headed answer h e f =
+      rw (headed head h).0 (told-seen (λ _. 0) answer e (f ∙ ap (λ (it : Head). rows_call it ws ss ids rows marks) (headed head h).1))
 
 -- ---- a lookup
 
@@ -47,16 +68,17 @@ module _ (head ws ss : List ℕ) (x : ℕ) (place : List ℕ) where
   unfolding flat_lookup
   lookup_short h e = rw (lt-leb place_places (length place) h, e)
 
-  pub lookup_unheaded : {n : ℕ} → place_places ≤ length place → (length head ≡ head_numbers → ⊥) → n ≡ refused_number (number_of UnfitHead)
+  pub lookup_unheaded : {n : ℕ} → place_places ≤ length place → None ≡ head_lent head → n ≡ refused_number (number_of UnfitHead)
       → seen n place ≡ flat_lookup head ws ss x place
   unfolding flat_lookup
-  lookup_unheaded h k e = rw (le-leb place_places (length place) h, ne_eqb (length head) head_numbers k, e)
+  lookup_unheaded h k e = rw (le-leb place_places (length place) h, unheaded head k, e)
 
-  pub lookup_headed : {n : ℕ} {place' : List ℕ} (found : Result (Option Place) Refusal) → place_places ≤ length place → length head ≡ head_numbers
-      → answer_of found ≡ lookup_call (head_of head) ws ss x → seen n place' ≡ answer_seen (answer_of found) place → seen n place' ≡ flat_lookup head ws ss x place
+  pub lookup_headed : {n : ℕ} {lent : Head} {place' : List ℕ} (found : Result (Option Place) Refusal) → place_places ≤ length place → Some lent ≡ head_lent head
+      → answer_of found ≡ lookup_call lent ws ss x → seen n place' ≡ answer_seen (answer_of found) place → seen n place' ≡ flat_lookup head ws ss x place
   unfolding flat_lookup
   lookup_headed found h k e f =
-      rw (le-leb place_places (length place) h, eq-eqb (length head) head_numbers k) (f ∙ ap (λ (a : Answer). answer_seen a place) e)
+      rw (le-leb place_places (length place) h, (headed head k).0)
+      (f ∙ ap (λ (a : Answer). answer_seen a place) (e ∙ ap (λ (it : Head). lookup_call it ws ss x) (headed head k).1))
 
 -- the place of a row is written to the front
 pub place_written : {found : Result (Option Place) Refusal} (p : Place) (place : List ℕ) → place_places ≤ length place → found ≡ Ok (Some p)
@@ -95,14 +117,14 @@ module _ (number : ℕ) (gamma : Float) (ids : List ℕ) (s : Stores) (out : Lis
 -- ---- an image
 
 module _ (head ws ss image : List ℕ) where
-  pub write_unheaded : {n : ℕ} → (length head ≡ head_numbers → ⊥) → n ≡ refused_number (number_of UnfitHead) → seen n image ≡ flat_write head ws ss image
+  pub write_unheaded : {n : ℕ} → None ≡ head_lent head → n ≡ refused_number (number_of UnfitHead) → seen n image ≡ flat_write head ws ss image
   unfolding flat_write
-  write_unheaded h e = rw (ne_eqb (length head) head_numbers h, e)
+  write_unheaded h e = rw (unheaded head h, e)
 
-  pub write_headed : {n : ℕ} {after : List ℕ} (answer : Result ℕ Refusal) → length head ≡ head_numbers → n ≡ of_counted answer
-      → counted answer after ≡ write_call (head_of head) ws ss image → seen n after ≡ flat_write head ws ss image
+  pub write_headed : {n : ℕ} {lent : Head} {after : List ℕ} (answer : Result ℕ Refusal) → Some lent ≡ head_lent head → n ≡ of_counted answer
+      → counted answer after ≡ write_call lent ws ss image → seen n after ≡ flat_write head ws ss image
   unfolding flat_write
-  write_headed answer h e f = rw (eq-eqb (length head) head_numbers h) (told-seen (λ n. n) answer e f)
+  write_headed answer h e f = rw (headed head h).0 (told-seen (λ n. n) answer e (f ∙ ap (λ (it : Head). write_call it ws ss image) (headed head h).1))
 
 made_read : (answer : Result Head Refusal) (ws ss out : List ℕ)
     → seen (of_made answer) (flat_loaded ws ss (fronted (value_in answer ∷ numbers_of (head_made answer)) out)) ≡ read_seen (read_of answer ws ss) out

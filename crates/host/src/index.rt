@@ -57,6 +57,7 @@ pub(crate) fn write_out(made: &Result<Head, Refusal>, out: &mut [u64])
 }
 
 // The head of the numbers that a host lends, if they are as many as a head is.
+#[tactic(auto, unfolding(crate::specs::Flat::head_lent))]
 pub(crate) fn head_of(numbers: &[u64]) -> Option<Head>
     ensures { result ≡ head_lent numbers.now }
 {

@@ -7,8 +7,4 @@ pub returns-then-out-lt-OUT : goal.returns-then-out-lt-OUT
 returns-then-out-lt-OUT c = read_short _ _ _ _ (omega (arith, c.if-out-lt-OUT.true)) c.refused.ensures
 
 pub returns : goal.returns
-returns c =
-    let a = c.args in
-    let r = c.read-loaded.result in
-    read_asked a.image.now a.words.now a.samples.now a.out.now r.outcome r.head _ _
-    (omega (arith, c.if-out-lt-OUT.false)) c.made.ensures c.value.ensures c.read-loaded.ensures c.write_out.ensures
+returns c = read_asked _ _ _ _ c.read-loaded.result _ _ (omega (arith, c.if-out-lt-OUT.false)) c.number.ensures c.read-loaded.ensures c.write_out.ensures

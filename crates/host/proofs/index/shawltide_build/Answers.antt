@@ -12,6 +12,5 @@ returns-then-out-lt-OUT c =
 pub returns : goal.returns
 returns c =
     let a = c.args in
-    let r = c.build-built.result in
-    build_asked a.kind a.gamma a.ids.now (stores a.words.now a.samples.now a.collide.now a.rest.now) a.out.now r.outcome r.head _ (omega (arith, c.if-out-lt-OUT.false)) c.made.ensures
-    c.value.ensures c.build-built.ensures c.write_out.ensures
+    build_asked a.kind a.gamma a.ids.now (stores a.words.now a.samples.now a.collide.now a.rest.now) a.out.now c.build-built.result _ (omega (arith, c.if-out-lt-OUT.false))
+    c.number.ensures c.build-built.ensures c.write_out.ensures

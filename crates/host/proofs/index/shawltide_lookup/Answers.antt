@@ -1,11 +1,8 @@
 -- `host::index::shawltide_lookup` meets its contract. Assumes nothing.
-use mathlib.Core.Path.{sym, ap, ◌∙◌}
-use native.Mathlib.Omega.{arith}
-use Prim.Native.Nat.{ℕ}
-use Rattle.head.specs.declared.Head.{Head}
-use Rattle.finding.specs.declared.Found.{Found}
+use Rattle.std.proofs.Common.{Option, Result, Ok, sym, ap, ◌∙◌, arith}
+use Rattle.refusal.specs.declared.Refusal.{Refusal}
+use Rattle.finding.specs.declared.Place.{Place}
 use Rattle.finding.specs.Find.{answer_of}
-use Rattle.lookup.specs.Lookup.{lookup_call}
 use Rattle.host.specs.Flat.{seen, answer_seen}
 use Rattle.host.proofs.Flats.{lookup_short, lookup_unheaded, lookup_headed, place_written}
 use Rattle.host.proofs.index.shawltide_lookup.Goals as goal
@@ -13,26 +10,25 @@ use Rattle.host.proofs.index.shawltide_lookup.Goals as goal
 pub returns-then-place-lt-PLACE : goal.returns-then-place-lt-PLACE
 returns-then-place-lt-PLACE c = let a = c.args in lookup_short a.head.now a.words.now a.samples.now a.id a.place.now (omega (arith, c.if-place-lt-PLACE.true)) c.refused.ensures
 
-pub returns-then-head-ne-NUMBERS : goal.returns-then-head-ne-NUMBERS
-returns-then-head-ne-NUMBERS c = let a = c.args in lookup_unheaded a.head.now a.words.now a.samples.now a.id a.place.now (omega (arith, c.if-place-lt-PLACE.false)) (λ e. omega (arith, c.if-head-ne-NUMBERS.true, e)) c.refused-then-head-ne-NUMBERS.ensures
-
-pub returns-in-Row : goal.returns-in-Row
-returns-in-Row c =
+pub returns-in_default : goal.returns-in_default
+returns-in_default c =
     let a = c.args in
-    lookup_headed a.head.now a.words.now a.samples.now a.id a.place.now c.lookup-found.result (omega (arith, c.if-place-lt-PLACE.false)) (omega (arith, c.if-head-ne-NUMBERS.false))
-    (c.lookup-found.ensures ∙ ap (λ (h : Head). lookup_call h a.words.now a.samples.now a.id) c.read.ensures)
-    (place_written _ a.place.now (omega (arith, c.if-place-lt-PLACE.false)) c.in-Row.is)
+    lookup_unheaded a.head.now a.words.now a.samples.now a.id a.place.now (omega (arith, c.if-place-lt-PLACE.false)) c.in_default.ensures c.refused-in_default.ensures
 
-pub returns-in-None : goal.returns-in-None
-returns-in-None c =
+pub returns-in-Ok-Some : goal.returns-in-Ok-Some
+returns-in-Ok-Some c =
     let a = c.args in
-    lookup_headed a.head.now a.words.now a.samples.now a.id a.place.now c.lookup-found.result (omega (arith, c.if-place-lt-PLACE.false)) (omega (arith, c.if-head-ne-NUMBERS.false))
-    (c.lookup-found.ensures ∙ ap (λ (h : Head). lookup_call h a.words.now a.samples.now a.id) c.read.ensures)
-    (ap (λ (f : Found). answer_seen (answer_of f) a.place.now) (sym c.in-None.is))
+    lookup_headed a.head.now a.words.now a.samples.now a.id a.place.now _ (omega (arith, c.if-place-lt-PLACE.false)) c.in-Some.ensures c.lookup.ensures
+    (place_written _ a.place.now (omega (arith, c.if-place-lt-PLACE.false)) (c.in-Ok-Some.is ∙ ap Ok c.in-Ok-Some.field-0-is))
 
-pub returns-in-Refused : goal.returns-in-Refused
-returns-in-Refused c =
+pub returns-in-Ok-None : goal.returns-in-Ok-None
+returns-in-Ok-None c =
     let a = c.args in
-    lookup_headed a.head.now a.words.now a.samples.now a.id a.place.now c.lookup-found.result (omega (arith, c.if-place-lt-PLACE.false)) (omega (arith, c.if-head-ne-NUMBERS.false))
-    (c.lookup-found.ensures ∙ ap (λ (h : Head). lookup_call h a.words.now a.samples.now a.id) c.read.ensures)
-    (ap (λ (n : ℕ). seen n a.place.now) c.refused-in-Refused.ensures ∙ ap (λ (f : Found). answer_seen (answer_of f) a.place.now) (sym c.in-Refused.is))
+    lookup_headed a.head.now a.words.now a.samples.now a.id a.place.now _ (omega (arith, c.if-place-lt-PLACE.false)) c.in-Some.ensures c.lookup.ensures
+    (ap (λ (f : Result (Option Place) Refusal). answer_seen (answer_of f) a.place.now) (sym (c.in-Ok-None.is ∙ ap Ok c.in-Ok-None.field-0-is)))
+
+pub returns-in-Err : goal.returns-in-Err
+returns-in-Err c =
+    let a = c.args in
+    lookup_headed a.head.now a.words.now a.samples.now a.id a.place.now _ (omega (arith, c.if-place-lt-PLACE.false)) c.in-Some.ensures c.lookup.ensures
+    (ap (λ n. seen n a.place.now) c.refused-in-Err.ensures ∙ ap (λ (f : Result (Option Place) Refusal). answer_seen (answer_of f) a.place.now) (sym c.in-Err.is))
