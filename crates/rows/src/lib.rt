@@ -1,7 +1,7 @@
 // The row list: at each row the id that lookup sends there.
 #![tactic(auto)]
 
-ghost use Rattle.std.specs.Prelude.{◌≡◌, ◌≤◌, ◌<◌, length, MatchOption};
+ghost use Rattle.std.specs.Prelude.{◌≡◌, ◌≤◌, ◌<◌, length, MatchOption, IfSome};
 ghost use Rattle.std.proofs.Math.Option.{none, some};
 ghost use Rattle.laws.specs.Bits.{words_for};
 ghost use Rattle.refusal.specs.Answers.{made};
@@ -101,8 +101,10 @@ fn write_row(index: &Index, id: u64, rows: &mut [u64])
 }
 
 // The id's row, if it has one.
+#[tactic(auto, unfolding(crate::specs::Passes::row_by), using(finding::proofs::Told::told_below))]
 fn row_of(index: &Index, id: u64) -> Option<u64>
-    ensures { MatchOption result (row_by index.now id ≡ none) (λ row. (row_by index.now id ≡ some row) × (row < index.now.head.now.count)) }
+    ensures row { MatchOption result (row_by index.now id ≡ none) (λ row. row_by index.now id ≡ some row) }
+    ensures below { IfSome result (λ row. row < index.now.head.now.count) }
 {
     match index.find(id) {
         Ok(Some(place)) => Some(place.row),
