@@ -81,6 +81,7 @@ fn mark_row(index: &Index, id: u64, marks: &mut [u64]) -> bool
 }
 
 // Writes each id at its row.
+#[tactic(auto, using(crate::proofs::Lists::writes_more, crate::proofs::Lists::writes_done))]
 fn write_rows(index: &Index, ids: &[u64], rows: &mut [u64])
     requires { index.now.head.now.count ≤ length rows.old }
     ensures { rows.new ≡ with_ids (row_by index.now) ids.now rows.old }
