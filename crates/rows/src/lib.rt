@@ -1,7 +1,7 @@
 // The row list: at each row the id that lookup sends there.
 #![tactic(auto)]
 
-ghost use Rattle.std.specs.Prelude.{◌≡◌, ◌≤◌, ◌<◌, length, MatchOption};
+ghost use Rattle.std.specs.Prelude.{◌≡◌, ◌≤◌, ◌<◌, length, MatchOption, IfSome};
 ghost use Rattle.std.proofs.Math.Option.{none, some};
 ghost use Rattle.laws.specs.Bits.{words_for};
 ghost use Rattle.refusal.specs.Answers.{made};
@@ -81,6 +81,7 @@ fn mark_row(index: &Index, id: u64, marks: &mut [u64]) -> bool
 }
 
 // Writes each id at its row.
+#[tactic(auto, using(crate::proofs::Lists::writes_more, crate::proofs::Lists::writes_done))]
 fn write_rows(index: &Index, ids: &[u64], rows: &mut [u64])
     requires { index.now.head.now.count ≤ length rows.old }
     ensures { rows.new ≡ with_ids (row_by index.now) ids.now rows.old }
@@ -101,8 +102,10 @@ fn write_row(index: &Index, id: u64, rows: &mut [u64])
 }
 
 // The id's row, if it has one.
+#[tactic(auto, unfolding(crate::specs::Passes::row_by), using(finding::proofs::Told::told_below))]
 fn row_of(index: &Index, id: u64) -> Option<u64>
-    ensures { MatchOption result (row_by index.now id ≡ none) (λ row. (row_by index.now id ≡ some row) × (row < index.now.head.now.count)) }
+    ensures row { MatchOption result (row_by index.now id ≡ none) (λ row. row_by index.now id ≡ some row) }
+    ensures below { IfSome result (λ row. row < index.now.head.now.count) }
 {
     match index.find(id) {
         Ok(Some(place)) => Some(place.row),
