@@ -5,6 +5,7 @@ use mathlib.Core.List.{List}
 use Prim.Native.Nat.{ℕ, suc, ◌<◌}
 use lib.Ieee.{Float}
 use lib.ListN.{length}
+use Rattle.std.specs.Prelude.{Err}
 use Rattle.mixer.specs.declared.Kind.{Kind}
 use Rattle.bounds.specs.Bounds.{level_limit}
 use Rattle.refusal.specs.declared.Refusal.TheVariants.{NoRoomForLevel, IdsRemain}
@@ -14,7 +15,6 @@ use Rattle.rule.proofs.Run.{full_known, remaining_known}
 use Rattle.run.specs.Stores.{Stores}
 use Rattle.build.specs.Build.{BuildEnd, built_of, ended}
 use Rattle.head.specs.Index.{rule_of}
-use Rattle.head.specs.declared.Head.{Head}
 use Rattle.demands.specs.Demands.{build_by, room_in, of_run}
 use Rattle.demands.proofs.Outcomes.{by_run, was_5, was_6}
 

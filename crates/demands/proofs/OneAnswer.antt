@@ -1,6 +1,6 @@
 -- No room for a second answer, module 6: two outcomes that meet a call's promise are equal, the answer and every word of every store. bitvector's
 -- proofs/Unique.antt says the same of the sets. Assumes nothing.
-use mathlib.Core.Path.{◌≡◌, refl, sym, ap, ap₂, ◌∙◌}
+use mathlib.Core.Path.{◌≡◌, refl, sym, ap, ◌∙◌}
 use mathlib.Core.List.{List}
 use Prim.Native.Nat.{ℕ}
 use lib.Ieee.{Float}

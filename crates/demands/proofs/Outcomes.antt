@@ -15,7 +15,6 @@ use Rattle.mixer.specs.declared.Kind.{Kind}
 use Rattle.mixer.proofs.KindNumbers.{number_known}
 use Rattle.run.specs.Stores.{Stores}
 use Rattle.head.specs.Index.{no_head, rule_of}
-use Rattle.head.specs.declared.Head.{Head}
 use Rattle.refusal.specs.Table.{number_of}
 use Rattle.refusal.specs.Answers.{check}
 use Rattle.refusal.specs.declared.Refusal.{Refusal}

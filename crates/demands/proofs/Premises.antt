@@ -122,7 +122,7 @@ index = returned Plain gamma pair room end.after.head end.after.stores promised
 
 -- with rows for both: a lookup that meets its promise there says more than row 0 or none
 two_rows : (f : ℕ → Result (Option Place) Refusal) → ((x : ℕ) → answer_of (f x) ≡ lookup_call end.after.head end.after.stores.words end.after.stores.samples x)
-    → ((x : ℕ) (p : Place) → f x ≡ Row p → p.row ≡ 0) → ⊥
+    → ((x : ℕ) (p : Place) → f x ≡ Ok (Some p) → p.row ≡ 0) → ⊥
 two_rows f meets = not_all_first Plain gamma pair room end.after.head end.after.stores promised f meets 5 7 (lit< tt) (lit< tt) (λ e. omega arith)
 
 -- ---- a foreign id gets none, or a row

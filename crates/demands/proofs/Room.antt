@@ -19,7 +19,7 @@ use Rattle.laws.proofs.Counts.{empty}
 use Rattle.build.specs.Build.{BuildEnd, cleared, ended}
 use Rattle.mixer.specs.declared.Kind.{Kind}
 use Rattle.run.specs.Stores.{Stores}
-use Rattle.head.specs.Index.{no_head, rule_of}
+use Rattle.head.specs.Index.{rule_of}
 use Rattle.head.specs.Layout.{samples_of_size}
 use Rattle.build.proofs.Builds.{checked, passed}
 use Rattle.head.proofs.Indexes.{rule_sound}

@@ -35,6 +35,11 @@ use Rattle.demands.proofs.Twice.{twice_left, twice_full}
 
 -- ---- builds, at three ids of which two share their position in level 0
 
+-- the id count of the head that is answered
+abbrev count_in : Result Head Refusal → ℕ
+count_in (Ok head) = head.count
+count_in (Err why) = 0
+
 module _ (a : Result Head Refusal) (t : Stores) (meets : built_of a t ≡ build_call 0 two three lent_three) where
   -- the whole outcome is decided
   pub three_only : (a ≡ three_built) × (t ≡ three_left)
@@ -50,8 +55,7 @@ module _ (a : Result Head Refusal) (t : Stores) (meets : built_of a t ≡ build_
   -- one that returns an empty head
   pub not_empty : a ≡ Ok no_head → ⊥
   not_empty e =
-      let d = three_only.0 in
-      let z : ◌≡◌ {A = ℕ} 0 3 = cc in
+      let z : ◌≡◌ {A = ℕ} 0 3 = ap count_in (sym e ∙ three_only.0) in
       omega arith
 
   -- one that writes nothing

@@ -7,6 +7,7 @@ use Rattle.laws.proofs.Chains.{each_at}
 use Rattle.mixer.specs.Kinds.{kind_number, kind_of}
 use Rattle.mixer.specs.declared.Kind.TheVariants.{Plain}
 use Rattle.std.specs.Prelude.{Err}
+use Rattle.refusal.specs.declared.Refusal.TheVariants.{UnknownKind}
 use Rattle.head.specs.Numbers.{head_numbers}
 use Rattle.block.specs.Block.{content_at}
 use Rattle.image.specs.Image.{form, older_form, is_form, head_place, form_in, head_in, read_call}
@@ -24,6 +25,6 @@ module _ (image : List ℕ) where
 pub no_kind_kept : (number : ℕ) → kind_of number ≡ Err UnknownKind → NoKindKept number
 unfolding read_call
 no_kind_kept number u = record {
-  write = λ head ws ss store e. sym (write_unknown head ws ss store (sym (ap kind_of e ∙ u)));
+  write = λ head ws ss store e. sym (write_unknown head ws ss store UnknownKind (sym (ap kind_of e ∙ u)));
   read = λ image us vs good e k. rw (good, ap is_form e, ap kind_of (kind_in image e ∙ k) ∙ u);
 }

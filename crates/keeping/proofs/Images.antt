@@ -18,6 +18,7 @@ use Rattle.laws.proofs.Clear.{is_clear_lem}
 use Rattle.laws.proofs.Lists.{words_each, words_take}
 use Rattle.mixer.specs.declared.Kind.{Kind}
 use Rattle.std.specs.Prelude.{Result, Ok, Err}
+use Rattle.refusal.specs.declared.Refusal.{Refusal}
 use Rattle.mixer.specs.Kinds.{kind_of}
 use Rattle.refusal.specs.Answers.{Outcome, answered, refused, check}
 use Rattle.refusal.specs.declared.Refusal.TheVariants.{UnfitHead, ShortOutput, BadBlock, UnfitContent}
@@ -38,6 +39,7 @@ use Rattle.block.proofs.Changed.{length_changed, changed_bad}
 use Rattle.block.proofs.Undone.{checks_differ}
 use Rattle.block.proofs.Whole.{bytes_small, bytes_back, word_lt}
 use Rattle.block.proofs.Written.{length_all_bytes, length_image}
+use Rattle.image.specs.Steps.{has_room}
 use Rattle.image.specs.Image.{form, is_form, content_end, image_blocks, content_of, image_of, write_call, block_checks}
 use Rattle.image.specs.Image.{min_blocks, block_count, bad_block, form_in, numbers_in, head_in, words_in, samples_in, holds_index, ReadAfter, read_after, after_blocks, read_call}
 use Rattle.image.proofs.ContentWords.{content_none}
@@ -276,13 +278,21 @@ module _ (image us vs : List ℕ) (small_bytes : Bytes image) (known : Accepted 
   image_is : image_read image us vs ≡ again
   image_is = ap (λ (r : Outcome ReadAfter). image_of r.after.head r.after.words r.after.samples) known.left ∙ again_is
 
+  fits_own : has_room (used_by head) (length ws) (length ss) ≡ true
+  fits_own =
+      rw (
+        length-filled (words_in image) (length us) (rw read_kept.all_words known.word_room),
+        length-filled (samples_in image) (length vs) (rw read_kept.all_samples known.sample_room),
+        le-leb (used_words head) (length us) known.word_room,
+        le-leb (used_samples head) (length vs) known.sample_room,
+      )
+
   written : (store : List ℕ) → length again ≤ length store → write_read image us vs store ≡ answered (block_count again) (fronted again store)
   unfolding image_of
   written store h =
       ap (λ (r : Outcome ReadAfter). write_call r.after.head r.after.words r.after.samples store) known.left
       ∙ sym (image_written head ws ss store known.passed.kind known.passed.known (used_by head) (measured_uses _ _ _ known.passed.holds.bounds)
-      (rw (length-filled (words_in image) (length us) (rw read_kept.all_words known.word_room)) known.word_room)
-      (rw (length-filled (samples_in image) (length vs) (rw read_kept.all_samples known.sample_room)) known.sample_room)
+      fits_own
       known.passed.holds.unused (image_blocks form (used_by head)) refl (omega (arith, long head (words_in image) (samples_in image))) (fronted again store)
       (ap (λ (bs : List ℕ). fronted bs store) (sym again_is)))
       ∙ ap (λ (m : ℕ). answered m (fronted again store)) (sym (blocks_are head (words_in image) (samples_in image)))
