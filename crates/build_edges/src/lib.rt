@@ -33,7 +33,7 @@ pub struct Build {
 
 impl Build {
     // A line: its answer, and what the stores hold after it.
-    pub fn show(&self, rt: &impl Print, name: &str) -> io::Result<()> {
+    pub fn show(&self, rt: &impl Print, name: impl fmt::Display + Drop) -> io::Result<()> {
         let mut word_store = [7; WORDS];
         let mut sample_store = [7; SAMPLES];
         let mut collide_store = [7; 8];
@@ -63,7 +63,7 @@ impl Build {
 }
 
 // One id, in stores of just what it needs: what the other lines change.
-pub const ONE_ID: Build = Build {
+pub const ONE: Build = Build {
     kind: 0,
     gamma: 2.0,
     ids: 1,
@@ -74,66 +74,46 @@ pub const ONE_ID: Build = Build {
 };
 
 // An id that stands twice, in stores for all levels.
-const TWICE: Build = Build {
+const TWO: Build = Build {
     ids: 2,
     words: WORDS,
     samples: SAMPLES,
     rest: 2,
-    ..ONE_ID
+    ..ONE
 };
 
 pub fn accepted(rt: &impl Print) -> io::Result<()> {
     Build {
         ids: 0,
         rest: 0,
-        ..ONE_ID
+        ..ONE
     }
     .show(rt, "no ids")?;
-    ONE_ID.show(rt, "one id")?;
+    ONE.show(rt, "one id")?;
     Build {
         words: 8,
         samples: 4,
         collide: 8,
         rest: 4,
-        ..ONE_ID
+        ..ONE
     }
     .show(rt, "one id, in longer stores")
 }
 
 pub fn refused(rt: &impl Print) -> io::Result<()> {
-    Build {
-        gamma: 1.01,
-        ..ONE_ID
-    }
-    .show(rt, "gamma 1.01")?;
+    Build { gamma: 1.01, ..ONE }.show(rt, "gamma 1.01")?;
     Build {
         gamma: 16.000000000000004,
-        ..ONE_ID
+        ..ONE
     }
     .show(rt, "gamma above 16")?;
-    Build { rest: 0, ..ONE_ID }.show(rt, "a rest store of no place")?;
-    Build {
-        collide: 3,
-        ..ONE_ID
-    }
-    .show(rt, "a collide store of 3 words")?;
-    Build { words: 3, ..ONE_ID }.show(rt, "3 words")?;
-    Build {
-        samples: 0,
-        ..ONE_ID
-    }
-    .show(rt, "no sample")?;
-    TWICE.show(rt, "an id twice, 400 words, 100 samples")?;
-    Build {
-        words: 399,
-        ..TWICE
-    }
-    .show(rt, "an id twice, 399 words")?;
-    Build {
-        samples: 99,
-        ..TWICE
-    }
-    .show(rt, "an id twice, 99 samples")
+    Build { rest: 0, ..ONE }.show(rt, "a rest store of no place")?;
+    Build { collide: 3, ..ONE }.show(rt, "a collide store of 3 words")?;
+    Build { words: 3, ..ONE }.show(rt, "3 words")?;
+    Build { samples: 0, ..ONE }.show(rt, "no sample")?;
+    TWO.show(rt, "an id twice, 400 words, 100 samples")?;
+    Build { words: 399, ..TWO }.show(rt, "an id twice, 399 words")?;
+    Build { samples: 99, ..TWO }.show(rt, "an id twice, 99 samples")
 }
 
 // What a call that makes a head answers, with the value that its refusal carries.

@@ -43,7 +43,7 @@ impl<'a> Stored<'a> {
     pub fn rows(
         &self,
         rt: &impl Print,
-        name: &str,
+        name: impl fmt::Display + Drop,
         ids: &[u64],
         rows: usize,
         marks: usize,
