@@ -1,15 +1,16 @@
 -- The bits of two lists of words in one, word by word: what `insert_all` does. Assumes nothing.
-use mathlib.Core.Path.{◌≡◌, refl, sym, ap₂, ◌∙◌}
+use mathlib.Core.Path.{◌≡◌, refl, sym, ap, ap₂, ◌∙◌}
 use mathlib.Core.Bool.{Bool, true, false, not, ◌||◌, ◌&&◌}
-use mathlib.Core.List.{List, append_assoc}
+use mathlib.Core.List.{List, ◌++◌, append_assoc, append-nil}
 use Prim.Native.Nat.{ℕ, suc, ◌+◌, ◌*◌, ◌^◌, ◌≤◌, ◌<◌}
 use native.Mathlib.Numerals.{add-one}
 use native.Mathlib.Omega.{arith}
 use borrow.Author.Tests.{eq-eqb, le-ltb}
 use lib.Bits.{bit_or}
 use lib.Dec.{eqb}
-use lib.ListN.{length, get_or, set, drop}
-use lib.Seq.{drop-cons, get_or_at, set_at}
+use lib.ListN.{length, get_or, set, take, drop}
+use lib.Seq.{drop-cons, get_or_at, length-take-le, set_at}
+use Rattle.std.proofs.lemmas.List.{drop_all}
 use Rattle.laws.specs.Counting.{one}
 use Rattle.laws.specs.Bits.{has, words_for, word_of, packed}
 use Rattle.laws.proofs.Cases.{eqb_both}
@@ -20,6 +21,7 @@ use Rattle.bitvector.specs.Steps.{either_bits, Joined}
 use Rattle.refusal.specs.Answers.{answered}
 use Rattle.bitvector.specs.Calls.{sound, insert_all_call}
 use Rattle.bitvector.proofs.Soundness.{set_bits_lem}
+use Rattle.bitvector.proofs.Fronts.{front_has}
 use Rattle.bitvector.proofs.Agreement.{same_next, same_past, same_both}
 
 -- ---- a turn of the loop: the first i words of xs are joined, and the others are those of ws
@@ -55,6 +57,22 @@ module _ (ws us xs : List ℕ) (i : ℕ) (new : Bool) (l : i < length ws) (j : J
       })
 
 -- ---- the call
+
+-- the words at the front of others are joined
+pub joined_fronts : (ws us : List ℕ) (n : ℕ) → n ≤ length ws → {front : List ℕ} → front ≡ take n us → {k : ℕ} → k ≡ n → {new : Bool} {after : List ℕ}
+    → Joined (length (take k ws)) (take k ws) front new after → Joined n ws us new (after ++ drop k ws)
+joined_fronts ws us n l {front} e {k} h {new} {after} j =
+    let q : length (take k ws) ≡ n = ap (λ (i : ℕ). length (take i ws)) h ∙ length-take-le n ws l in
+    let own : (b : ℕ) → b < 64 * n → has (take k ws) b ≡ has ws b = front_has ws n (ap (λ (i : ℕ). take i ws) h) in
+    let either : (b : ℕ) → b < 64 * n → either_bits (take k ws) front b ≡ either_bits ws us b = λ b m. ap₂ ◌||◌ (own b m) (front_has us n e b m) in
+    let f : Joined n (take k ws) front new after = rw q at j in
+    record {
+      new = f.new ∙ ap not (same_both _ _ (has ws) (either_bits ws us) (64 * n) own either);
+      words =
+          ap₂ (λ (x y : List ℕ). x ++ y)
+          (f.words ∙ ap₂ (λ (x y : List ℕ). x ++ y) (packed_below n _ (either_bits ws us) either) (drop_all n (take k ws) (omega arith)) ∙ append-nil (packed n (either_bits ws us)))
+          (ap (λ (i : ℕ). drop i ws) h);
+    }
 
 pub joined : (capacity : ℕ) (ws : List ℕ) (capacity₂ : ℕ) (us : List ℕ) → sound capacity ws ≡ true → sound capacity₂ us ≡ true → capacity ≡ capacity₂
     → (new : Bool) (after : List ℕ) → Joined (words_for capacity) ws us new after → answered (one new) after ≡ insert_all_call capacity ws capacity₂ us

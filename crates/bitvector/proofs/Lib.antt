@@ -1,5 +1,6 @@
 pub mod Soundness
 pub mod Stores
+pub mod Fronts
 pub mod Sizes
 pub mod Fills
 pub mod Rising

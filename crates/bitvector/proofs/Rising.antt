@@ -11,7 +11,7 @@ use borrow.Author.Tests.{lt-ltb, leb-true}
 use lib.Bits.{bit_and}
 use lib.Count.{ones, count_trailing_zeros}
 use lib.Dec.{eqb, leb}
-use lib.ListN.{length, get_or, set, drop, length-append}
+use lib.ListN.{length, get_or, set, take, drop}
 use lib.Pow.{pow_pos}
 use lib.Seq.{sets, sets-eq, length-sets}
 use Rattle.laws.specs.Counting.{one, rank, chain}
@@ -23,11 +23,12 @@ use Rattle.laws.proofs.Digits.{digit_lt, down_le, down_same, down_other, ones_lo
 use Rattle.laws.proofs.Words.{has-digit}
 use Rattle.laws.proofs.Ones.{rank_next}
 use Rattle.bitvector.specs.Sets.{Plain, rising, set_of}
-use Rattle.bitvector.specs.Steps.{numbers_in, WordListed, stretch, Listed, Front}
+use Rattle.bitvector.specs.Steps.{counted_from, numbers_in, WordListed, Listed, Front}
 use Rattle.refusal.specs.Answers.{answered, refused}
 use Rattle.refusal.specs.declared.Refusal.TheVariants.{ShortOutput}
 use Rattle.bitvector.specs.Calls.{sound, members_call}
 use Rattle.bitvector.proofs.Soundness.{stray, set_size}
+use Rattle.bitvector.proofs.Fronts.{PartOf, front_has, front_rank, part_rank}
 
 -- ---- one word
 
@@ -40,7 +41,7 @@ no_number base w k e = rw e
 
 -- the lowest set digit comes first, and then those of the word without it
 pub numbers_pop : (base w : ℕ) → w < 2 ^ 64 → w ≢ 0 → numbers_in base w ≡ (base + count_trailing_zeros 64 w) ∷ numbers_in base (w - 2 ^ count_trailing_zeros 64 w)
-unfolding numbers_in
+unfolding numbers_in counted_from
 numbers_pop base w h n =
     let low = lowest 64 w h n in
     let t : ℕ = count_trailing_zeros 64 w in
@@ -66,11 +67,11 @@ numbers_pop base w h n =
         ]
 
 pub numbers_zero : (base : ℕ) → numbers_in base 0 ≡ []
-unfolding numbers_in
+unfolding numbers_in counted_from
 numbers_zero base = refl
 
 pub length_numbers : (base w : ℕ) → w < 2 ^ 64 → length (numbers_in base w) ≡ ones w
-unfolding numbers_in
+unfolding numbers_in counted_from
 length_numbers base w h =
     length-chain (of_digit base w) 64 ∙ sum_same _ (λ k. digit w k) 64 (λ k l. go (digit w k) (digit_lt w k) k) ∙ sym (ones_low w 64) ∙ ap ones (mod-eq_of_lt h)
   where
@@ -109,97 +110,99 @@ length-rising s n = length-chain _ n ∙ sum_same _ (λ b. one (s b)) n (λ b l.
     go b true = refl
     go b false = refl
 
--- from a on, where they are the numbers below a and those from there on
-rising-stretch : (s : Plain) (a n : ℕ) → rising s (a + n) ≡ rising s a ++ stretch s a n
-unfolding stretch
-rising-stretch s a n = chain_split _ a n
-
-length-stretch : (s : Plain) (a n : ℕ) → rank s a + length (stretch s a n) ≡ rank s (a + n)
-length-stretch s a n =
-    ap (λ (k : ℕ). k + length (stretch s a n)) (sym (length-rising s a)) ∙ sym (length-append (rising s a) (stretch s a n))
-    ∙ ap length (sym (rising-stretch s a n)) ∙ length-rising s (a + n)
+length_counted : (base : ℕ) (s : Plain) (n : ℕ) → length (counted_from base s n) ≡ rank s n
+unfolding counted_from
+length_counted base s n = length-chain _ n ∙ sum_same _ (λ k. one (s k)) n (λ k l. go k (s k))
+  where
+    go : (k : ℕ) (t : Bool) → length (cond t ((base + k) ∷ []) []) ≡ one t
+    go k true = refl
+    go k false = refl
 
 -- one word more
-stretch_next : (ws : List ℕ) (i m : ℕ) → stretch (has ws) (64 * i) (64 * (m + 1)) ≡ stretch (has ws) (64 * i) (64 * m) ++ numbers_in ((i + m) * 64) (get_or ws (i + m) 0)
-unfolding stretch numbers_in
-stretch_next ws i m =
+counted_next : (base : ℕ) (ws : List ℕ) (m : ℕ)
+    → counted_from base (has ws) (64 * (m + 1)) ≡ counted_from base (has ws) (64 * m) ++ numbers_in (base + 64 * m) (get_or ws m 0)
+unfolding counted_from numbers_in
+counted_next base ws m =
     let e : 64 * (m + 1) ≡ 64 * m + 64 = omega arith in
-    let member : ℕ → List ℕ = λ k. cond (has ws (64 * i + k)) ((64 * i + k) ∷ []) [] in
+    let member : ℕ → List ℕ = λ k. cond (has ws k) ((base + k) ∷ []) [] in
     ap (chain member) e ∙ chain_split member (64 * m) 64
     ∙ ap (λ (l : List ℕ). chain member (64 * m) ++ l)
     (chain_same _ _ 64 (λ k l. ap₂ (λ (t : Bool) (b : ℕ). cond t (b ∷ []) []) (test k l) (same k)))
   where
-    same : (k : ℕ) → 64 * i + (64 * m + k) ≡ (i + m) * 64 + k
+    same : (k : ℕ) → base + (64 * m + k) ≡ base + 64 * m + k
     same k = omega arith
 
     back : (t : Bool) → t ≡ eqb (one t) 1
     back true = refl
     back false = refl
 
-    test : (k : ℕ) → k < 64 → has ws (64 * i + (64 * m + k)) ≡ eqb (digit (get_or ws (i + m) 0) k) 1
-    test k l =
-        let e : 64 * i + (64 * m + k) ≡ 64 * (i + m) + k = omega arith in
-        ap (has ws) e ∙ back (has ws (64 * (i + m) + k)) ∙ ap (λ (d : ℕ). eqb d 1) (has-digit ws (i + m) k l)
+    test : (k : ℕ) → k < 64 → has ws (64 * m + k) ≡ eqb (digit (get_or ws m 0) k) 1
+    test k l = back (has ws (64 * m + k)) ∙ ap (λ (d : ℕ). eqb d 1) (has-digit ws m k l)
 
 sets_append : (l us vs : List ℕ) (i : ℕ) → sets l i (us ++ vs) ≡ sets (sets l i us) (i + length us) vs
 sets_append l [] vs i = ap (λ (k : ℕ). sets l k vs) (sym (add-zero i))
 sets_append l (u ∷ us) vs i =
     sets_append (set l i u) us vs (suc i) ∙ ap (λ (k : ℕ). sets (sets (set l i u) (suc i) us) k vs) (suc-add i (length us) ∙ sym (add-suc i (length us)))
 
-module _ (ws : List ℕ) (i : ℕ) where
+module _ (ws : List ℕ) (base place : ℕ) (out : List ℕ) where
   -- no word
-  pub listed_none : (place : ℕ) (out : List ℕ) → Listed ws i i place out place out
-  unfolding stretch
-  listed_none place out =
-      let e : i - i ≡ 0 = omega arith in
-      record { told = refl; store = rw e }
+  pub listed_none : Listed ws 0 base place out place out
+  unfolding counted_from
+  listed_none = record { told = sym (add-zero place); store = refl }
 
   -- one word more
-  pub listed_turn : Words ws → (j : ℕ) → i ≤ j → (place : ℕ) {next next₂ : ℕ} (out : List ℕ) {mid after : List ℕ} → Listed ws i j place out next mid
-      → WordListed (j * 64) (get_or ws j 0) next mid next₂ after → Listed ws i (j + 1) place out next₂ after
-  listed_turn f j l place {next = next} out {mid = mid} {after = after} x y =
-      let m : ℕ = j - i in
-      let r : List ℕ = stretch (has ws) (64 * i) (64 * m) in
-      let e : j + 1 - i ≡ m + 1 = omega arith in
-      let at : i + m ≡ j = omega arith in
-      let far : 64 * i + 64 * m ≡ 64 * j = omega arith in
-      let on : next ≡ place + length r = omega (arith, x.told, length-stretch (has ws) (64 * i) (64 * m), ap (rank (has ws)) far) in
+  pub listed_turn : Words ws → (j : ℕ) {next next₂ : ℕ} {mid after : List ℕ} → Listed ws j base place out next mid
+      → WordListed (base + 64 * j) (get_or ws j 0) next mid next₂ after → Listed ws (j + 1) base place out next₂ after
+  listed_turn f j {next = next} x y =
+      let r : List ℕ = counted_from base (has ws) (64 * j) in
+      let on : next ≡ place + length r = omega (arith, x.told, length_counted base (has ws) (64 * j)) in
       record {
         told = omega (arith, x.told, y.told, rank_next ws f j);
         store =
-            y.store ∙ ap (λ (o : List ℕ). sets o next (numbers_in (j * 64) (get_or ws j 0))) x.store
-            ∙ rw (e, stretch_next ws i m, at, on) (sym (sets_append out r (numbers_in (j * 64) (get_or ws j 0)) place));
+            y.store ∙ ap (λ (o : List ℕ). sets o next (numbers_in (base + 64 * j) (get_or ws j 0))) x.store
+            ∙ rw (counted_next base ws j, on) (sym (sets_append out r (numbers_in (base + 64 * j) (get_or ws j 0)) place));
       }
 
 -- ---- the front of the store
 
-pub front_none : (ws out₀ : List ℕ) → Front ws out₀ 0 0 out₀
-front_none ws out₀ = record { told = refl; store = refl }
-
 pub front_length : {ws out₀ : List ℕ} {i next : ℕ} {out : List ℕ} → Front ws out₀ i next out → length out ≡ length out₀
 front_length x = ap length x.store ∙ simp length-sets refl
 
-module _ (ws out₀ : List ℕ) (i j next : ℕ) (out : List ℕ) (l : i ≤ j) (x : Front ws out₀ i next out) where
-  past : 64 * j ≡ 64 * i + 64 * (j - i)
-  past = omega arith
+-- those of the words from i on are put after those of the words before
+module _ {ws out₀ : List ℕ} {i next : ℕ} {out part : List ℕ} (p : PartOf ws i part) (x : Front ws out₀ i next out) where
+  split : rising (has ws) (64 * (i + length part)) ≡ rising (has ws) (64 * i) ++ counted_from (64 * i) (has part) (64 * length part)
+  unfolding counted_from
+  split =
+      let e : 64 * (i + length part) ≡ 64 * i + 64 * length part = omega arith in
+      let member : ℕ → List ℕ = λ b. cond (has ws b) (b ∷ []) [] in
+      ap (chain member) e ∙ chain_split member (64 * i) (64 * length part)
+      ∙ ap (λ (l : List ℕ). chain member (64 * i) ++ l)
+      (chain_same _ _ (64 * length part) (λ k l. ap (λ (t : Bool). cond t ((64 * i + k) ∷ []) []) (sym (p.bits k l))))
 
-  split : rising (has ws) (64 * j) ≡ rising (has ws) (64 * i) ++ stretch (has ws) (64 * i) (64 * (j - i))
-  split = ap (rising (has ws)) past ∙ rising-stretch (has ws) (64 * i) (64 * (j - i))
-
-  -- those of the words up to j are put after them
-  pub front_on : {next₂ : ℕ} {after : List ℕ} → Listed ws i j next out next₂ after → Front ws out₀ j next₂ after
+  pub front_on : {next₂ : ℕ} {after : List ℕ} → Listed part (length part) (64 * i) next out next₂ after → Front ws out₀ (i + length part) next₂ after
   front_on y =
       let r : List ℕ = rising (has ws) (64 * i) in
-      let t : List ℕ = stretch (has ws) (64 * i) (64 * (j - i)) in
+      let t : List ℕ = counted_from (64 * i) (has part) (64 * length part) in
       let k : next ≡ 0 + length r = x.told ∙ sym (length-rising (has ws) (64 * i)) ∙ sym (zero-add (length r)) in
-      record { told = omega (arith, x.told, y.told); store = rw (split, sets_append out₀ r t 0, ← k, ← x.store) y.store }
+      record { told = omega (arith, x.told, y.told, part_rank p); store = rw (split, sets_append out₀ r t 0, ← k, ← x.store) y.store }
 
-  -- the words up to j have none
-  pub front_over : rank (has ws) (64 * j) ≡ rank (has ws) (64 * i) → Front ws out₀ j next out
+  -- where they have none, nothing is
+  pub front_over : rank (has part) (64 * length part) ≡ 0 → Front ws out₀ (i + length part) next out
   front_over e =
-      let t : List ℕ = stretch (has ws) (64 * i) (64 * (j - i)) in
-      let none : t ≡ [] = empty t (omega (arith, e, length-stretch (has ws) (64 * i) (64 * (j - i)), ap (rank (has ws)) past)) in
-      record { told = x.told ∙ sym e; store = rw (split, none, append-nil (rising (has ws) (64 * i))) x.store }
+      let t : List ℕ = counted_from (64 * i) (has part) (64 * length part) in
+      let none : t ≡ [] = empty t (length_counted (64 * i) (has part) (64 * length part) ∙ e) in
+      record { told = omega (arith, x.told, e, part_rank p); store = rw (split, none, append-nil (rising (has ws) (64 * i))) x.store }
+
+-- the words at the front of others
+pub front_of_front : (ws : List ℕ) (n : ℕ) {front : List ℕ} → front ≡ take n ws → length front ≡ n → {out₀ : List ℕ} {next : ℕ} {out : List ℕ}
+    → Front front out₀ (length front) next out → Front ws out₀ n next out
+front_of_front ws n {front} e l {out₀} x =
+    let same : rising (has front) (64 * n) ≡ rising (has ws) (64 * n) =
+    chain_same _ _ (64 * n) (λ b m. ap (λ (t : Bool). cond t (b ∷ []) []) (front_has ws n e b m)) in
+    record {
+      told = x.told ∙ front_rank ws n e l;
+      store = x.store ∙ ap (λ (k : ℕ). sets out₀ 0 (rising (has front) (64 * k))) l ∙ ap (sets out₀ 0) same;
+    }
 
 -- ---- the call
 

@@ -16,17 +16,8 @@ use Rattle.laws.proofs.Cases.{eqb_both, both}
 use Rattle.laws.proofs.Sums.{none_rank, rank_same, sum_split}
 use Rattle.laws.proofs.Digits.{ones_none, ones-zero}
 use Rattle.laws.proofs.Ones.{rank-rest}
-use Rattle.refusal.specs.declared.Said.{Said}
-use Rattle.refusal.specs.Answers.{said, answered}
 use Rattle.bitvector.specs.Sets.{set_of}
-use Rattle.bitvector.specs.Steps.{said_if}
 use Rattle.bitvector.specs.Calls.{roomy, sound}
-
--- an answer that is yes or no
-pub yes_said : {After : Type 0} {r : Said} (b : Bool) → r ≡ said_if b → (s : After) → said r s ≡ answered (one b) s
-unfolding said_if
-yes_said true e s = rw e
-yes_said false e s = rw e
 
 pub record Roomy (capacity : ℕ) (ws : List ℕ) : Type 0 where
   pub bound : capacity ≤ max_bits

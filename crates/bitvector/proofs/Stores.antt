@@ -12,8 +12,8 @@ use Rattle.laws.specs.Bits.{has, Words, words_for, with_bit, without_bit}
 use Rattle.laws.proofs.Words.{Put, with_put, without_put, put_length, put_drop, put_words, put_has}
 use Rattle.laws.proofs.Packing.{packed_store}
 use Rattle.bitvector.specs.Sets.{Plain, plus, minus, set_of, stored}
-use Rattle.refusal.specs.Answers.{answered, untouched}
-use Rattle.bitvector.specs.Calls.{sound, contains_call, insert_call, remove_call}
+use Rattle.refusal.specs.Answers.{answered}
+use Rattle.bitvector.specs.Calls.{sound, insert_call, remove_call}
 use Rattle.bitvector.proofs.Soundness.{sound_room, set_bits_lem}
 
 module _ (capacity : ℕ) (ws : List ℕ) (bit : ℕ) (s : sound capacity ws ≡ true) (h : bit < capacity) where
@@ -29,9 +29,6 @@ module _ (capacity : ℕ) (ws : List ℕ) (bit : ℕ) (s : sound capacity ws ≡
       packed_store n act ws us (rw (put_length p) r.words) (put_words p f)
       (λ b l. e b ∙ ap (λ (x : Bool). cond (eqb b bit) t x) (set_bits_lem capacity ws s b l) ∙ sym (put_has p bit_word b))
       (put_drop p n (omega arith))
-
-  pub contained : answered (one (has ws bit)) untouched ≡ contains_call capacity ws bit
-  contained = rw (s, lt-ltb _ _ h)
 
   pub inserted : Words ws → answered (one (not (has ws bit))) (with_bit ws bit) ≡ insert_call capacity ws bit
   inserted f =

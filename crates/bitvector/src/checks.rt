@@ -1,40 +1,48 @@
-// What the calls check first.
-ghost use Rattle.std.specs.Prelude.{◌≡◌};
+// What the calls check first. Beside the answer each says what is known where it is no refusal.
+ghost use Rattle.std.specs.Prelude.{◌≡◌, ◌≤◌, ◌<◌, true, ltb, length, Ok, Err, OnOk};
+ghost use Rattle.bounds.specs.Bounds.{max_bits};
+ghost use Rattle.laws.specs.Bits.{words_for};
+ghost use Rattle.refusal.specs.Answers.{check};
+ghost use Rattle.refusal.specs.declared.Refusal.TheVariants.{BitOutside, UnfitSet};
 ghost use Rattle.bitvector.specs.Calls.{roomy, sound};
-ghost use Rattle.bitvector.specs.Steps.{said_if};
 
 use bounds::MAX_BITS;
-use refusal::Said;
+use refusal::Refusal;
 use words::u64s;
 
-// Whether the store has the words that a capacity needs, and the capacity is within the bound.
-pub(crate) fn has_room(capacity: u64, words: &[u64]) -> bool
-    ensures { result ≡ roomy capacity words.now }
+// The store has the words that a capacity needs, and the capacity is within the bound.
+pub(crate) fn check_room(capacity: u64, words: &[u64]) -> Result<(), Refusal>
+    ensures answer { result ≡ check (roomy capacity words.now) UnfitSet Err (Ok tt) }
+    ensures roomy { OnOk result (roomy capacity words.now ≡ true) }
+    ensures room { OnOk result ((capacity ≤ max_bits) × (words_for capacity ≤ length words.now)) }
 {
-    if capacity > MAX_BITS {
-        return false;
+    if capacity > MAX_BITS || u64s(capacity) > words.len() as u64 {
+        return Err(Refusal::UnfitSet);
     }
-    u64s(capacity) <= words.len() as u64
+    Ok(())
 }
 
-// The same, and whether the last of them has no bit at or past the capacity.
-pub(crate) fn is_sound(capacity: u64, words: &[u64]) -> bool
-    ensures { result ≡ sound capacity words.now }
+// The same, and the last of those words has no bit at or past the capacity.
+pub(crate) fn check_sound(capacity: u64, words: &[u64]) -> Result<(), Refusal>
+    ensures answer { result ≡ check (sound capacity words.now) UnfitSet Err (Ok tt) }
+    ensures sound { OnOk result (sound capacity words.now ≡ true) }
+    ensures room { OnOk result ((capacity ≤ max_bits) × (words_for capacity ≤ length words.now)) }
 {
-    if !has_room(capacity, words) {
-        return false;
-    }
+    check_room(capacity, words)?;
     let past = capacity % 64;
-    if past == 0 {
-        return true;
+    if past > 0 && words[(capacity / 64) as usize] >> past != 0 {
+        return Err(Refusal::UnfitSet);
     }
-    let at = (capacity / 64) as usize;
-    words[at] >> past == 0
+    Ok(())
 }
 
-// A bool as an answer.
-pub(crate) fn yes_if(yes: bool) -> Said
-    ensures { result ≡ said_if yes }
+// The bit is below the capacity.
+pub(crate) fn check_bit(capacity: u64, bit: u64) -> Result<(), Refusal>
+    ensures answer { result ≡ check (ltb bit capacity) BitOutside Err (Ok tt) }
+    ensures below { OnOk result (bit < capacity) }
 {
-    if yes { Said::Yes } else { Said::No }
+    if bit >= capacity {
+        return Err(Refusal::BitOutside);
+    }
+    Ok(())
 }

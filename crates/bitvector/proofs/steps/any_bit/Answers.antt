@@ -1,6 +1,15 @@
 -- `bitvector::steps::any_bit` meets its contract. Assumes nothing.
-use Rattle.bitvector.proofs.Sizes.{gathered_next}
+use mathlib.Core.Path.{◌≡◌, ap, ◌∙◌}
+use mathlib.Core.Bool.{not}
+use Prim.Native.Nat.{ℕ}
+use borrow.Author.Rules.{rules}
+use lib.Bits.{bit_or}
+use lib.Dec.{eqb}
+use Rattle.std.specs.List.{fold}
+use Rattle.bitvector.proofs.Sizes.{any_set}
 use Rattle.bitvector.proofs.steps.any_bit.Goals as goal
 
-pub loop-i-preserved : goal.loop-i-preserved
-loop-i-preserved c = gathered_next _ (λ i. (c.type_inv.words i).fits) _ _ _ c.loop-i.invariant
+pub returns : goal.returns
+returns c =
+    let all : c.fold.result ≡ fold bit_or 0 c.args.words.now = search rules in
+    ap (λ (n : ℕ). not (eqb n 0)) all ∙ any_set _ (λ i. (c.type_inv.words i).fits)

@@ -5,5 +5,5 @@ use Rattle.laws.specs.Counting.{rank}
 use Rattle.laws.specs.Bits.{has}
 use Rattle.bitvector.proofs.steps.count_sparse.Given as goal
 
-abbrev pub invariant-loop-g : goal.invariant-loop-g
-invariant-loop-g l = l.count ≡ rank (has l.words) (64 * (l.g * 8))
+abbrev pub invariant-loop-group : goal.invariant-loop-group
+invariant-loop-group l = l.count ≡ rank (has l.words) (64 * (l.group-index * 8))

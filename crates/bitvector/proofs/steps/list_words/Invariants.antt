@@ -3,4 +3,4 @@ use Rattle.bitvector.specs.Steps.{Listed}
 use Rattle.bitvector.proofs.steps.list_words.Given as goal
 
 abbrev pub invariant-loop-i : goal.invariant-loop-i
-invariant-loop-i l = Listed l.words l.start l.i l.place l.initial.out l.next l.out
+invariant-loop-i l = Listed l.words l.i l.base l.place l.initial.out l.next l.out
