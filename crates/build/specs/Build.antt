@@ -1,11 +1,9 @@
 -- A build: the checks in their order, then the run of levels, laid out in the stores.
-use Rattle.std.specs.Prelude.{ℕ, not, ◌&&◌, List, leb, Float, length}
+use Rattle.std.specs.Prelude.{ℕ, not, ◌&&◌, List, leb, Float, length, Result, Ok, Err}
 use Rattle.bounds.specs.Bounds.{max_ids, level_limit}
 use Rattle.laws.specs.Bits.{words_for}
 use Rattle.laws.specs.Stores.{zeros, filled}
-use Rattle.refusal.specs.Answers.{Outcome, made, answered, refused, check}
-use Rattle.refusal.specs.declared.Made.{Made}
-use Rattle.refusal.specs.declared.Made.TheVariants.{Done, Refused}
+use Rattle.refusal.specs.Answers.{Outcome, answered, refused, check}
 use Rattle.refusal.specs.declared.Refusal.{Refusal}
 use Rattle.refusal.specs.declared.Refusal.TheVariants.{GammaTooSmall, GammaTooLarge, TooManyIds, ShortWorkStore, NoRoomForLevel, IdsRemain}
 use Rattle.rule.specs.Rule.{RunEnd, built, no_room, ids_left, run}
@@ -26,23 +24,24 @@ pub record BuildAfter : Type 0 where
 abbrev pub build_after : Head → Stores → BuildAfter
 build_after head s = record { head = head; stores = s }
 
--- the outcome of a build, and that of the code's struct beside the stores
+-- the outcome of a build, and that of the code's answer beside the stores: the head that is answered, or that of no index
 abbrev pub BuildEnd : Type 0
 BuildEnd = Outcome BuildAfter
 
-abbrev pub built_of : Made → Head → Stores → BuildEnd
-built_of answer head s = made answer (build_after head s)
+abbrev pub built_of : Result Head Refusal → Stores → BuildEnd
+built_of (Ok head) s = answered 0 (build_after head s)
+built_of (Err why) s = refused (build_after no_head s) why
 
 -- ---- the checks
 
 -- the checks of a build of n ids, with work stores of so many places
-unfoldable pub build_checks : Float → ℕ → ℕ → ℕ → Made
+unfoldable pub build_checks : Float → ℕ → ℕ → ℕ → Result Unit Refusal
 build_checks gamma n collideRoom restRoom =
-    check (above_min gamma) GammaTooSmall Refused
-    (check (not (above_max gamma)) GammaTooLarge Refused
-    (check (leb n max_ids) TooManyIds Refused
-    (check (leb n restRoom && leb (words_for (size_for gamma n)) collideRoom) ShortWorkStore Refused
-    Done)))
+    check (above_min gamma) GammaTooSmall Err
+    (check (not (above_max gamma)) GammaTooLarge Err
+    (check (leb n max_ids) TooManyIds Err
+    (check (leb n restRoom && leb (words_for (size_for gamma n)) collideRoom) ShortWorkStore Err
+    (Ok tt))))
 
 -- ---- the end of a run
 
@@ -68,9 +67,9 @@ ended kind gamma ids s (ids_left n) = refused_run (IdsRemain n) s
 -- ---- the call
 
 -- what comes after the checks of a known kind: where they refuse, a head of 0 and the stores as they were, and else the run
-abbrev pub after_checks : Made → Kind → Float → List ℕ → Stores → BuildEnd
-after_checks (Refused why) kind gamma ids s = refused (build_after no_head s) why
-after_checks Done kind gamma ids s = ended kind gamma ids s (run (rule_of kind gamma) (room_of (length s.words) (length s.samples)) ids level_limit)
+abbrev pub after_checks : Result Unit Refusal → Kind → Float → List ℕ → Stores → BuildEnd
+after_checks (Err why) kind gamma ids s = refused (build_after no_head s) why
+after_checks (Ok done) kind gamma ids s = ended kind gamma ids s (run (rule_of kind gamma) (room_of (length s.words) (length s.samples)) ids level_limit)
 
 -- A build of the ids in the stores, by the number of its kind: the checks, that of the kind first, which leave the stores as they were, then the run.
 unfoldable pub build_call : ℕ → Float → List ℕ → Stores → BuildEnd

@@ -9,7 +9,7 @@ use native.Mathlib.Decide.{ℕ_discrete}
 use native.Mathlib.Omega.{arith}
 use borrow.Author.Tests.{eq-eqb, ne_eqb}
 use lib.Dec.{eqb}
-use lib.ListN.{length, get_or, set, take, length-append, length-drop}
+use lib.ListN.{length, get_or, set, take, length-append}
 use lib.Seq.{length-take-le}
 use Rattle.laws.specs.Counting.{hits, sift}
 use Rattle.laws.specs.Bits.{has, words_for, without_bit}
@@ -83,9 +83,6 @@ module _ {g : ℕ → ℕ} {collide ws store : List ℕ} {i kept : ℕ} {ws₁ s
   pub kept_le : i ≤ length store → kept ≤ i
   kept_le h =
       omega (arith, t.count_is, length-sift (goes_on g collide) (take i store), tally_not (goes_on g collide) (take i store), length-take-le i store h)
-
-  pub kept_length : i ≤ length store → length store₁ ≡ length store
-  kept_length h = rw (t.store_is, length-append, length-drop, ← t.count_is) (omega (arith, kept_le h))
 
   module _ (h : i < length store) {told : Bool} {ws₂ : List ℕ} (u : OneFiltered g collide ws₁ (get_or store₁ i 0) told ws₂) where
     -- the next id is still where it stood

@@ -2,7 +2,7 @@
 use mathlib.Core.Path.{◌≡◌, refl, sym, ◌∙◌}
 use mathlib.Core.Bool.{Bool, true, false, not, ◌||◌, ◌&&◌, or-false, or-true}
 use mathlib.Core.List.{List, [], ◌∷◌, ◌++◌, foldl-append}
-use Prim.Native.Nat.{ℕ, ◌+◌, ◌*◌, ◌/◌, ◌≤◌, ◌<◌}
+use Prim.Native.Nat.{ℕ, ◌+◌, ◌*◌, ◌/◌, ◌<◌}
 use mathlib.Core.Logic.{◌≢◌}
 use native.Mathlib.Nat.{add-zero, zero-add, add_assoc}
 use native.Mathlib.Decide.{ℕ_discrete}
@@ -13,7 +13,7 @@ use lib.ListN.{length, drop}
 use Rattle.laws.specs.Counting.{one, hits}
 use Rattle.laws.specs.Bits.{has, Words, words_for, with_bit, packed}
 use Rattle.laws.proofs.Words.{with_put}
-use Rattle.level.specs.Level.{ClearWords, MarkStores, mark_stores, mark_one, mark_all, met, shared}
+use Rattle.level.specs.Level.{Room, ClearWords, MarkStores, mark_stores, mark_one, mark_all, met, shared}
 use Rattle.level.proofs.Folds.{fold_keeps}
 use Rattle.level.proofs.Few.{first_more, again_more}
 use Rattle.level.proofs.Kept.{Kept, kept_none, kept_more, kept_put, holds, put_here, put_other, clear_has}
@@ -84,11 +84,6 @@ module _ (g : ℕ → ℕ) (s : MarkStores) (id : ℕ) where
     marked j = elim (ℕ_discrete j (g id)) [ yes e ↦ rw e marked_here | no n ↦ marked_there j n ]
 
 -- ---- what both stores have, and keep
-
--- room for the words that the size needs
-pub record Room (size : ℕ) (s : MarkStores) : Type 0 where
-  pub own : words_for size ≤ length s.words
-  pub other : words_for size ≤ length s.collide
 
 -- what a level begins with: room, and needed words that are 0
 pub record Fresh (size : ℕ) (s : MarkStores) : Type 0 where

@@ -1,14 +1,16 @@
 -- A level's two passes leave what the level rule says. Assumes nothing.
-use mathlib.Core.Path.{◌≡◌, refl, ◌∙◌}
-use mathlib.Core.Bool.{Bool}
-use mathlib.Core.List.{List, [], ◌∷◌, ◌++◌}
-use Prim.Native.Nat.{ℕ, ◌*◌, ◌<◌}
+use mathlib.Core.Path.{◌≡◌, refl, sym, ap, ◌∙◌}
+use mathlib.Core.Bool.{Bool, not}
+use mathlib.Core.List.{List, [], ◌∷◌, ◌++◌, append_assoc}
+use Prim.Native.Nat.{ℕ, ◌*◌, ◌≤◌, ◌<◌}
 use native.Mathlib.Omega.{arith}
-use lib.ListN.{take, drop}
+use lib.ListN.{length, take, drop, take-append-drop}
+use lib.Seq.{take_all}
+use Rattle.std.proofs.lemmas.List.{drop-append-le}
 use Rattle.laws.specs.Counting.{hits, count, sift}
 use Rattle.laws.specs.Bits.{has, words_for, packed}
 use Rattle.laws.proofs.Cases.{one-eq}
-use Rattle.laws.proofs.Counts.{count-le-hits}
+use Rattle.laws.proofs.Counts.{count-le-hits, length-sift, tally_not}
 use Rattle.rule.specs.Rule.{single, rest}
 use Rattle.level.specs.Level.{MarkStores, mark_all, goes_on, filter_all, Filtered, AfterLevel}
 use Rattle.level.proofs.Few.{one_not_two, two_not_one}
@@ -60,3 +62,29 @@ module _ (g : ℕ → ℕ) (size : ℕ) (within : (id : ℕ) → g id < size) (s
         store_is = rw (placed_rest (take count store)) at t.store_is;
         count_is = rw (placed_rest (take count store)) at t.count_is;
       }
+
+-- ---- the ids at the front of a longer store
+
+rest-le : (g : ℕ → ℕ) (ids : List ℕ) → length (rest g ids) ≤ length ids
+rest-le g ids =
+    let on : ℕ → Bool = λ x. not (single g ids (g x)) in
+    omega (arith, length-sift on ids, tally_not on ids)
+
+-- what a level leaves in the first n places is what it leaves in the whole store
+pub placed_front : (g : ℕ → ℕ) (size n : ℕ) (words collide store : List ℕ) {told : ℕ} {words' collide' front : List ℕ} → n ≤ length store
+    → AfterLevel g size (length (take n store)) words collide (take n store) told words' collide' front
+    → AfterLevel g size n words collide store told words' collide' (front ++ drop n store)
+placed_front g size n words collide store {told} {words'} {collide'} {front} h t =
+    let own : List ℕ = take n store in
+    let e : take (length own) own ≡ own = take_all (length own) own (omega arith) in
+    let on : List ℕ = rest g own in
+    let few : length on ≤ length own = rest-le g own in
+    record {
+      words_are = rw e at t.words_are;
+      collide_is = rw e at t.collide_is;
+      store_is =
+          ap (λ (l : List ℕ). l ++ drop n store) (rw e at t.store_is)
+          ∙ append_assoc on (drop (length on) own) (drop n store)
+          ∙ ap (λ (l : List ℕ). on ++ l) (sym (drop-append-le (length on) own (drop n store) few) ∙ ap (drop (length on)) (take-append-drop n store));
+      count_is = rw e at t.count_is;
+    }

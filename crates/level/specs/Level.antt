@@ -1,27 +1,13 @@
 -- One level on words: its ids are marked one after another, then filtered one after another; and what the level leaves by the level rule.
 -- A function g gives each id its position.
-use Rattle.std.specs.Prelude.{◌≡◌, Bool, cond, ℕ, ◌≤◌, ◌<◌, leb, length, take, drop, replicate}
+use Rattle.std.specs.Prelude.{◌≡◌, Bool, cond, ℕ, ◌≤◌, leb, length, take, drop, replicate}
 use mathlib.Core.List.{List, ◌++◌, foldl}
-use Rattle.bounds.specs.Bounds.{max_bits}
 use Rattle.laws.specs.Counting.{hits, sift}
 use Rattle.laws.specs.Bits.{has, words_for, with_bit, without_bit, packed}
 use Rattle.laws.specs.Stores.{fronted}
 use Rattle.rule.specs.Rule.{single, rest}
 
--- ---- what a level asks
-
--- a size within the bound, and the words that it needs in both stores
-pub record LevelRoom (size : ℕ) (words collide : List ℕ) : Type 0 where
-  pub positive : 0 < size
-  pub bound : size ≤ max_bits
-  pub own_room : words_for size ≤ length words
-  pub collide_room : words_for size ≤ length collide
-
--- the first n words are 0
-abbrev pub ClearWords : ℕ → List ℕ → Type 0
-ClearWords n words = take n words ≡ replicate n 0
-
--- ---- marking
+-- ---- the stores
 
 -- the stores that are marked in: the level's words, and collide's
 pub record MarkStores : Type 0 where
@@ -30,6 +16,17 @@ pub record MarkStores : Type 0 where
 
 abbrev pub mark_stores : List ℕ → List ℕ → MarkStores
 mark_stores words collide = record { words = words; collide = collide }
+
+-- both have the words that the size needs
+pub record Room (size : ℕ) (s : MarkStores) : Type 0 where
+  pub own : words_for size ≤ length s.words
+  pub other : words_for size ≤ length s.collide
+
+-- the first n words are 0
+abbrev pub ClearWords : ℕ → List ℕ → Type 0
+ClearWords n words = take n words ≡ replicate n 0
+
+-- ---- marking
 
 -- One id: where collide has its position nothing happens; else where the level has it, collide gets it; else the level gets it.
 unfoldable pub mark_one : (ℕ → ℕ) → MarkStores → ℕ → MarkStores

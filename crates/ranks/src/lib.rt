@@ -6,6 +6,8 @@ ghost use Rattle.sizes.specs.Sizes.{samples_for};
 ghost use Rattle.ranks.specs.Ranks.{ones_from};
 ghost use Rattle.ranks.specs.Sampling.{Sampled};
 
+use words::count_ones;
+
 // There is a sample for every so many words.
 const STRIDE: usize = bounds::SAMPLE_WORDS as usize;
 
@@ -14,8 +16,7 @@ pub fn part(store: &[u64], at: usize, n: usize) -> &[u64]
     requires { at + n ≤ length store.now }
     ensures { result.now ≡ take n (drop at store.now) }
 {
-    let end = at + n;
-    &store[at..end]
+    &store[at..at + n]
 }
 
 // Writes a level's samples to the front of the store, from its words and the number of set bits before it; the set bits up to and with this level.
@@ -25,11 +26,9 @@ pub fn sample_level(words: &[u64], before: u64, samples: &mut [u64]) -> u64
     ensures { Sampled before words.now samples.old result samples.new }
 {
     let mut ones = before;
-    for i in 0..words.len() {
-        if i % STRIDE == 0 {
-            samples[i / STRIDE] = ones;
-        }
-        ones += u64::count_ones(words[i]) as u64;
+    for (j, group) in words.chunks(STRIDE).enumerate() {
+        samples[j] = ones;
+        ones += count_ones(group);
     }
     ones
 }
@@ -41,13 +40,10 @@ pub fn ones_from(words: &[u64], position: u64) -> u64
 {
     let at = (position / 64) as usize;
     let first = at / STRIDE * STRIDE;
-    let mut ones: u64 = 0;
-    for i in first..at {
-        ones += u64::count_ones(words[i]) as u64;
-    }
+    let mut ones = count_ones(&words[first..at]);
     let below = position % 64;
     if below > 0 {
-        ones += u64::count_ones(words[at] << (64 - below)) as u64;
+        ones += (words[at] << (64 - below)).count_ones() as u64;
     }
     ones
 }

@@ -9,13 +9,15 @@ use lib.Ieee.{Float}
 use lib.ListN.{length, take, drop, set, length-append, length-take, length-drop, length-replicate}
 use lib.Seq.{take_at, length-take-le}
 use Rattle.bounds.specs.Bounds.{max_ids, level_limit, head_sizes}
+use Rattle.std.specs.Prelude.{Ok, Err, Some, None}
+use Rattle.refusal.specs.declared.Refusal.TheVariants.{NoRoomForLevel, IdsRemain}
 use Rattle.laws.specs.Bits.{words_for}
 use Rattle.laws.proofs.Packing.{packed-has}
 use Rattle.laws.proofs.Counts.{empty}
 use Rattle.laws.specs.Stores.{fronted, zeros, filled, pasted}
 use Rattle.ranks.specs.Ranks.{set_bits, samples_of}
 use Rattle.ranks.proofs.ByRule.{next_base}
-use Rattle.rule.specs.Rule.{Rule, Room, rest, remaining, span, bit, base, fits, built, no_room, ids_left}
+use Rattle.rule.specs.Rule.{Rule, Room, rest, remaining, span, bit, base, fits}
 use Rattle.rule.specs.Demand.{Reaches, none_left, out_of_room, at_limit}
 use Rattle.rule.proofs.Level.{unset_past, rest-length}
 use Rattle.rule.proofs.Levels.{remaining_fewer, all_accounted, spot-lt}
@@ -28,10 +30,9 @@ use Rattle.run.specs.Stores.{Stores}
 use Rattle.mixer.specs.declared.Kind.{Kind}
 use Rattle.head.specs.Index.{rule_of, room_of, words_at, samples_at, index_words, index_samples, index_sizes}
 use Rattle.run.specs.Turn.{next_size, TurnRoom, has_room, comers, spot, own_words, turned, next_progress, next_stores, level_turn}
-use Rattle.run.specs.Run.{Begun, Ran}
-use Rattle.run.specs.declared.Run.TheVariants as R
+use Rattle.run.specs.Run.{answer_of, Begun, Ran}
 use Rattle.run.specs.declared.Progress.{Progress}
-use Rattle.run.specs.declared.Turn.TheVariants as T
+use Rattle.run.specs.declared.Placed.{Placed}
 use Rattle.run.proofs.Turns.{turn_placed, turn_full}
 use Rattle.head.proofs.Indexes.{rule_sound, length-filled, filled_past, filled-pasted, filled-set, length_words_at, length_samples_at, length_words, length_samples_to, length_sizes, words_next, samples_next, sizes_next}
 
@@ -167,38 +168,35 @@ module _ (kind : Kind) (gamma : Float) (ids : List ℕ) (s₀ : Stores) where
     -- ---- how a turn ends the run, or goes on
 
     module _ (h : i < level_limit) {after : Stores} where
-      pub ran_full : turned T.NoRoom after ≡ level_turn rule at s → Ran rule ids s₀ (R.NoRoom i) sizes after
+      pub ran_full : {sizes' : List ℕ} → turned None after ≡ level_turn rule at s → Ran rule ids s₀ (Err (NoRoomForLevel at.level)) sizes' after
       ran_full e =
           let u = turn_full rule at s e in
-          record {
-            outcome = sym (ends_only rule room ids level_limit (out_of_room i h r (sym same_room ∙ u.0) refl));
+          rw t.level_is (record {
+            outcome = sym (ap answer_of (ends_only rule room ids level_limit (out_of_room i h r (sym same_room ∙ u.0) refl)));
             collide_is = ap (λ (x : Stores). x.collide) u.1 ∙ t.collide_is;
-            sizes_are = λ n q. absurd (not_built i n q);
-            words_are = λ n q. absurd (not_built i n q);
-            samples_are = λ n q. absurd (not_built i n q);
-          }
-        where
-          not_built : (j n : ℕ) → no_room j ≡ built n → ⊥
-          not_built j n q = let z : ◌≡◌ {A = ℕ} 0 1 = cc in omega arith
+            sizes_are = λ n q. cc;
+            words_are = λ n q. cc;
+            samples_are = λ n q. cc;
+          })
 
-      module _ {size : ℕ} {next : Progress} (e : turned (T.Placed size next) after ≡ level_turn rule at s) where
+      module _ {placed : Placed} (e : turned (Some placed) after ≡ level_turn rule at s) where
         placed_room : fits rule room ids (suc i) ≡ true
         placed_room = sym same_room ∙ (turn_placed rule at s e).has_room_lem
 
-        placed_state : State (suc i) next (set sizes i size) after
+        placed_state : State (suc i) placed.next (set sizes i placed.size) after
         placed_state =
             let u = turn_placed rule at s e in
-            rw (u.next_is, u.size_is, u.stores_are) (state_next placed_room h)
+            rw (u.placed_is, u.stores_are) (state_next placed_room h)
 
-        pub goes_on : (next.remaining ≡ 0 → ⊥) → State (suc i) next (set sizes i size) after × Reaches rule room ids (suc i)
+        pub goes_on : (placed.next.remaining ≡ 0 → ⊥) → State (suc i) placed.next (set sizes i placed.size) after × Reaches rule room ids (suc i)
         goes_on n = (placed_state, reaches_next rule room ids i r placed_room (omega (arith, placed_state.remaining_is)))
 
-        pub ran_built : next.remaining ≡ 0 → Ran rule ids s₀ (R.Built next.level) (set sizes i size) after
+        pub ran_built : placed.next.remaining ≡ 0 → Ran rule ids s₀ (Ok placed.next.level) (set sizes i placed.size) after
         ran_built z =
             let p = placed_state in
             let none : remaining rule ids (suc i) ≡ [] = empty (remaining rule ids (suc i)) (omega (arith, p.remaining_is)) in
             rw p.level_is (record {
-              outcome = sym (ends_only rule room ids level_limit (none_left i h r placed_room none refl));
+              outcome = sym (ap answer_of (ends_only rule room ids level_limit (none_left i h r placed_room none refl)));
               collide_is = p.collide_is;
               sizes_are = λ n q. let m : suc i ≡ n = cc in rw (← m) p.sizes_are;
               words_are = λ n q. let m : suc i ≡ n = cc in rw (← m) p.words_are;
@@ -208,18 +206,15 @@ module _ (kind : Kind) (gamma : Float) (ids : List ℕ) (s₀ : Stores) where
   -- ---- the limit
 
   pub ran_left : (at : Progress) (sizes : List ℕ) (s : Stores) → State level_limit at sizes s → Reaches rule room ids level_limit
-      → Ran rule ids s₀ (R.IdsLeft at.remaining) sizes s
+      → Ran rule ids s₀ (Err (IdsRemain at.remaining)) sizes s
   ran_left at sizes s t r =
       rw t.remaining_is (record {
-        outcome = sym (ends_only rule room ids level_limit (at_limit r refl));
+        outcome = sym (ap answer_of (ends_only rule room ids level_limit (at_limit r refl)));
         collide_is = t.collide_is;
-        sizes_are = λ n q. absurd (not_built (length (remaining rule ids level_limit)) n q);
-        words_are = λ n q. absurd (not_built (length (remaining rule ids level_limit)) n q);
-        samples_are = λ n q. absurd (not_built (length (remaining rule ids level_limit)) n q);
+        sizes_are = λ n q. cc;
+        words_are = λ n q. cc;
+        samples_are = λ n q. cc;
       })
-    where
-      not_built : (j n : ℕ) → ids_left j ≡ built n → ⊥
-      not_built j n q = let z : ◌≡◌ {A = ℕ} 0 1 = cc in omega arith
 
 -- ---- the beginning
 

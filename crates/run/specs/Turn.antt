@@ -1,5 +1,5 @@
 -- One level of a build, on stores in which the levels before it lie: what it asks and what it leaves, by the stores alone.
-use Rattle.std.specs.Prelude.{◌≡◌, Bool, cond, ◌&&◌, List, ℕ, ◌+◌, ◌-◌, ◌≤◌, ◌<◌, leb, Float, length, take, drop}
+use Rattle.std.specs.Prelude.{◌≡◌, Bool, cond, ◌&&◌, List, ℕ, ◌+◌, ◌-◌, ◌≤◌, ◌<◌, leb, Float, length, take, drop, Option, None, Some}
 use Rattle.bounds.specs.Bounds.{max_ids, max_bits, level_limit}
 use Rattle.laws.specs.Bits.{words_for, packed}
 use Rattle.laws.specs.Stores.{fronted, zeros, pasted}
@@ -10,39 +10,46 @@ use Rattle.sizes.specs.Sizes.{size_for, samples_for}
 use Rattle.head.specs.Layout.{samples_of_size}
 use Rattle.run.specs.Stores.{Stores, stores}
 use Rattle.run.specs.declared.Progress.{Progress}
-use Rattle.run.specs.declared.Turn.{Turn}
-use Rattle.run.specs.declared.Turn.TheVariants as T
+use Rattle.run.specs.declared.Placed.{Placed}
 
 -- ---- the ids of a level, placed in its words
 
 -- the words from the level's place on, and the collide store, are there and are 0
-pub record Placeable (size count at : ℕ) (store words collide : List ℕ) : Type 0 where
-  pub positive : 0 < size
-  pub bound : size ≤ max_bits
-  pub in_store : count ≤ length store
-  pub in_words : at + words_for size ≤ length words
-  pub in_collide : words_for size ≤ length collide
-  pub clear_words : drop at words ≡ zeros (length words - at)
-  pub clear_collide : collide ≡ zeros (length collide)
+pub record Placeable (size : ℕ) (at : Progress) (s : Stores) : Type 0 where
+  pub in_store : at.remaining ≤ length s.rest
+  pub in_words : at.words + words_for size ≤ length s.words
+  pub in_collide : words_for size ≤ length s.collide
+  pub clear_words : drop at.words s.words ≡ zeros (length s.words - at.words)
+  pub clear_collide : s.collide ≡ zeros (length s.collide)
 
-pub record PlacedAt (g : ℕ → ℕ) (size : ℕ) (ids : List ℕ) (at : ℕ) (store words collide : List ℕ) (told : ℕ) (store' words' collide' : List ℕ) : Type 0 where
-  pub words_are : words' ≡ pasted at (packed (words_for size) (single g ids)) words
-  pub collide_is : collide' ≡ collide
-  pub store_is : store' ≡ fronted (rest g ids) store
-  pub count_is : told ≡ length (rest g ids)
+-- by the positions g of its ids, what placing them tells and leaves
+pub record PlacedAt (g : ℕ → ℕ) (size : ℕ) (at : Progress) (s : Stores) (told : ℕ) (s' : Stores) : Type 0 where
+  pub words_are : s'.words ≡ pasted at.words (packed (words_for size) (single g (take at.remaining s.rest))) s.words
+  pub samples_are : s'.samples ≡ s.samples
+  pub collide_is : s'.collide ≡ s.collide
+  pub store_is : s'.rest ≡ fronted (rest g (take at.remaining s.rest)) s.rest
+  pub count_is : told ≡ length (rest g (take at.remaining s.rest))
 
 -- ---- the samples of a level
 
--- the level's words and its samples' places are there
-pub record Sampleable (at n before to : ℕ) (words samples : List ℕ) : Type 0 where
-  pub in_words : at + n ≤ length words
-  pub few_words : n ≤ words_for max_bits
-  pub few_set : before ≤ max_ids
-  pub in_samples : to + samples_for n ≤ length samples
+-- its n words
+abbrev pub placed_words : ℕ → Progress → Stores → List ℕ
+placed_words n at s = take n (drop at.words s.words)
 
-pub record SampledAt (before to : ℕ) (ws samples : List ℕ) (told : ℕ) (samples' : List ℕ) : Type 0 where
-  pub samples_are : samples' ≡ pasted to (samples_of before ws) samples
-  pub set_is : told ≡ before + set_bits ws
+-- the level's words and its samples' places are there
+pub record Sampleable (n : ℕ) (at : Progress) (s : Stores) : Type 0 where
+  pub in_words : at.words + n ≤ length s.words
+  pub few_words : n ≤ words_for max_bits
+  pub few_set : at.set ≤ max_ids
+  pub in_samples : at.samples + samples_for n ≤ length s.samples
+
+-- what sampling them tells and leaves
+pub record SampledAt (n : ℕ) (at : Progress) (s : Stores) (told : ℕ) (s' : Stores) : Type 0 where
+  pub words_are : s'.words ≡ s.words
+  pub samples_are : s'.samples ≡ pasted at.samples (samples_of at.set (placed_words n at s)) s.samples
+  pub collide_is : s'.collide ≡ s.collide
+  pub store_is : s'.rest ≡ s.rest
+  pub set_is : told ≡ at.set + set_bits (placed_words n at s)
 
 -- ---- the whole level
 
@@ -65,10 +72,10 @@ pub record TurnRoom (gamma : Float) (at : Progress) (s : Stores) : Type 0 where
 
 -- what a level tells, and the stores that it leaves
 pub record Turned : Type 0 where
-  pub turn : Turn
+  pub turn : Option Placed
   pub stores : Stores
 
-abbrev pub turned : Turn → Stores → Turned
+abbrev pub turned : Option Placed → Stores → Turned
 turned turn s = record { turn = turn; stores = s }
 
 module _ (rule : Rule) (at : Progress) (s : Stores) where
@@ -96,6 +103,9 @@ module _ (rule : Rule) (at : Progress) (s : Stores) where
     set = at.set + set_bits own_words;
   }
 
+  abbrev pub next_placed : Placed
+  next_placed = record { size = next_size rule at; next = next_progress }
+
   -- the level stands after the others, its samples likewise; collide is as it was; the ids that go on stand at the front of the rest store
   abbrev pub next_stores : Stores
   next_stores =
@@ -107,4 +117,4 @@ module _ (rule : Rule) (at : Progress) (s : Stores) where
 
   -- The level is placed, if there is room for it.
   unfoldable pub level_turn : Turned
-  level_turn = cond has_room (turned (T.Placed (next_size rule at) next_progress) next_stores) (turned T.NoRoom s)
+  level_turn = cond has_room (turned (Some next_placed) next_stores) (turned None s)

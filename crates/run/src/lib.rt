@@ -1,17 +1,28 @@
 // The levels of a build, one after another: each is placed in the words from its place on, and its samples are written.
 #![tactic(auto)]
 
-ghost use Rattle.std.specs.Prelude.{◌≡◌, take, drop};
+ghost use Rattle.std.specs.Prelude.{◌≡◌, take};
 ghost use Rattle.mixer.specs.Position.{position};
 ghost use Rattle.head.specs.Index.{rule_of};
-ghost use Rattle.run.specs.Stores.{stores};
+ghost use Rattle.run.specs.Stores.{SameStores, held};
 ghost use Rattle.run.specs.Run.{Begun, Ran};
 ghost use Rattle.run.specs.Turn.{Placeable, PlacedAt, Sampleable, SampledAt, TurnRoom, turned, level_turn};
 
 use bounds::{HEAD_SIZES, LEVEL_LIMIT};
+use level::Level;
 use mixer::Kind;
 use ranks::{part, sample_level};
+use refusal::Refusal;
 use words::{fill, u64s};
+
+// The stores that are lent to a build: words and samples of the index, and the work stores.
+#[derive(Drop)]
+pub struct Stores<'a> {
+    pub words: &'a mut [u64],
+    pub samples: &'a mut [u64],
+    pub collide: &'a mut [u64],
+    pub rest: &'a mut [u64],
+}
 
 // How far a build has come: the next level, how many ids come to it, the words and samples that the levels before it take, and the bits set in them.
 #[derive(Clone, Copy)]
@@ -23,124 +34,104 @@ struct Progress {
     set: u64,
 }
 
-// A level of this size is placed, or there is no room for it.
+// A level that is placed: its size, and how far the build has come with it.
 #[derive(Clone, Copy)]
-enum Turn {
-    Placed(u64, Progress),
-    NoRoom,
-}
-
-// How a run of levels ends: built with so many levels, no room for a level, or so many ids left after the last.
-#[derive(Clone, Copy)]
-pub enum Run {
-    Built(u64),
-    NoRoom(u64),
-    IdsLeft(u64),
-}
-
-// Builds one level after another for the first `count` ids of the rest store, and notes the levels' sizes.
-pub fn build_levels(
-    kind: Kind,
-    gamma: f64,
-    count: usize,
-    sizes: &mut [u64; HEAD_SIZES],
-    words: &mut [u64],
-    samples: &mut [u64],
-    collide: &mut [u64],
-    rest: &mut [u64],
-) -> Run
-    requires { Begun gamma count sizes.old (stores words.old samples.old collide.old rest.old) }
-    ensures { Ran (rule_of kind gamma) (take count rest.old)
-        (stores words.old samples.old collide.old rest.old)
-        result sizes.new (stores words.new samples.new collide.new rest.new) }
-{
-    let mut at = Progress {
-        level: 0,
-        remaining: count,
-        words: 0,
-        samples: 0,
-        set: 0,
-    };
-    for i in 0..LEVEL_LIMIT {
-        let turn = build_level(kind, gamma, at, words, samples, collide, rest);
-        let Turn::Placed(size, next) = turn else {
-            return Run::NoRoom(i as u64);
-        };
-        sizes[i] = size;
-        at = next;
-        if at.remaining == 0 {
-            return Run::Built(at.level);
-        }
-    }
-    Run::IdsLeft(at.remaining as u64)
-}
-
-// Builds the next level.
-fn build_level(
-    kind: Kind,
-    gamma: f64,
-    at: Progress,
-    words: &mut [u64],
-    samples: &mut [u64],
-    collide: &mut [u64],
-    rest: &mut [u64],
-) -> Turn
-    requires { TurnRoom gamma at (stores words.old samples.old collide.old rest.old) }
-    ensures { turned result (stores words.new samples.new collide.new rest.new)
-        ≡ level_turn (rule_of kind gamma) at (stores words.old samples.old collide.old rest.old) }
-{
-    let size = sizes::size(gamma, at.remaining as u64);
-    let taken = u64s(size) as usize;
-    let ranked = sizes::samples(taken as u64) as usize;
-    if words.len() - at.words < taken {
-        return Turn::NoRoom;
-    }
-    if samples.len() - at.samples < ranked {
-        return Turn::NoRoom;
-    }
-    let remaining = place_at(kind, at, size, rest, words, collide);
-    let set = sample_at(words, at.words, taken, at.set, samples, at.samples);
-    let next = Progress {
-        level: at.level + 1,
-        remaining,
-        words: at.words + taken,
-        samples: at.samples + ranked,
-        set,
-    };
-    Turn::Placed(size, next)
-}
-
-// Places the ids that come to the next level, which stand at the front of the rest store, in its words, and clears collide again; how many ids go on.
-fn place_at(
-    kind: Kind,
-    at: Progress,
+struct Placed {
     size: u64,
-    rest: &mut [u64],
-    words: &mut [u64],
-    collide: &mut [u64],
-) -> usize
-    requires { Placeable size at.remaining at.words rest.old words.old collide.old }
-    ensures { PlacedAt (position kind at.level size) size (take at.remaining rest.old) at.words
-        rest.old words.old collide.old result rest.new words.new collide.new }
-{
-    let start = at.words;
-    let kept = level::place(
-        kind,
-        at.level,
-        size,
-        at.remaining,
-        rest,
-        &mut words[start..],
-        collide,
-    );
-    fill(collide, u64s(size) as usize, 0);
-    kept
+    next: Progress,
 }
 
-// Writes the samples of the level of n words that starts at a place of the words, to a place of the sample store; the bits set up to and with this level.
-fn sample_at(words: &[u64], at: usize, n: usize, before: u64, samples: &mut [u64], to: usize) -> u64
-    requires { Sampleable at n before to words.now samples.old }
-    ensures { SampledAt before to (take n (drop at words.now)) samples.old result samples.new }
-{
-    sample_level(part(words, at, n), before, &mut samples[to..])
+impl Stores<'_> {
+    // Builds one level after another for the first `count` ids of the rest store, and notes the levels' sizes; how many levels there are.
+    pub fn build_levels(
+        &mut self,
+        kind: Kind,
+        gamma: f64,
+        count: usize,
+        sizes: &mut [u64; HEAD_SIZES],
+    ) -> Result<u64, Refusal>
+        requires { Begun gamma count sizes.old (held self.old) }
+        ensures same { SameStores self.old self.new }
+        ensures ran { Ran (rule_of kind gamma) (take count (held self.old).rest) (held self.old)
+            result sizes.new (held self.new) }
+    {
+        let mut at = Progress {
+            level: 0,
+            remaining: count,
+            words: 0,
+            samples: 0,
+            set: 0,
+        };
+        for size in &mut sizes[..LEVEL_LIMIT] {
+            let placed = self
+                .build_level(kind, gamma, at)
+                .ok_or(Refusal::NoRoomForLevel(at.level))?;
+            *size = placed.size;
+            at = placed.next;
+            if at.remaining == 0 {
+                return Ok(at.level);
+            }
+        }
+        Err(Refusal::IdsRemain(at.remaining as u64))
+    }
+
+    // Builds the next level, if there is room for it.
+    fn build_level(&mut self, kind: Kind, gamma: f64, at: Progress) -> Option<Placed>
+        requires { TurnRoom gamma at (held self.old) }
+        ensures same { SameStores self.old self.new }
+        ensures turn { turned result (held self.new) ≡ level_turn (rule_of kind gamma) at (held self.old) }
+    {
+        let size = sizes::size(gamma, at.remaining as u64);
+        let taken = u64s(size) as usize;
+        let ranked = sizes::samples(taken as u64) as usize;
+        let word_room = self.words.len() - at.words;
+        let sample_room = self.samples.len() - at.samples;
+        if word_room < taken || sample_room < ranked {
+            return None;
+        }
+        let level = Level {
+            kind,
+            number: at.level,
+            size,
+        };
+        let remaining = self.place_at(level, at);
+        let set = self.sample_at(taken, at);
+        let next = Progress {
+            level: at.level + 1,
+            remaining,
+            words: at.words + taken,
+            samples: at.samples + ranked,
+            set,
+        };
+        Some(Placed { size, next })
+    }
+
+    // Places the ids that come to the next level, which stand at the front of the rest store, in its words, and clears collide again; how many ids go on.
+    fn place_at(&mut self, level: Level, at: Progress) -> usize
+        requires { Placeable level.size at (held self.old) }
+        ensures same { SameStores self.old self.new }
+        ensures placed { PlacedAt (position level.kind level.number level.size) level.size at
+            (held self.old) result (held self.new) }
+    {
+        let kept = level::place(
+            level,
+            &mut self.rest[..at.remaining],
+            &mut self.words[at.words..],
+            self.collide,
+        );
+        fill(self.collide, u64s(level.size) as usize, 0);
+        kept
+    }
+
+    // Writes the samples of the next level, which has `taken` words; the bits set up to and with it.
+    fn sample_at(&mut self, taken: usize, at: Progress) -> u64
+        requires { Sampleable taken at (held self.old) }
+        ensures same { SameStores self.old self.new }
+        ensures sampled { SampledAt taken at (held self.old) result (held self.new) }
+    {
+        let samples = &mut self.samples[at.samples..];
+        // Lent by `&mut`, since a `&` to one field beside a `&mut` to another is not covered by the check.
+        let words = &mut *self.words;
+        sample_level(part(words, at.words, taken), at.set, samples)
+    }
 }

@@ -40,12 +40,13 @@ pub fn size(gamma: f64, ids: u64) -> u64
     if ids == 0 {
         return MIN_BITS;
     }
-    // The product is from 1 to below 2^53, and so significand * 2^(exponent - 1075), with an exponent from 1023 to 1075.
-    let bits = f64::to_bits(gamma * (ids as f64));
+    // The product is from 1 to below 2^53, and so significand * 2^(exponent - 1075), with an exponent from 1023 to 1075. Its whole part is taken from
+    // these bits and not by a cast, as the form of a size in docs/DECISIONS.md asks.
+    let bits = (gamma * ids as f64).to_bits();
     let exponent = bits / LEADING;
     let significand = bits % LEADING + LEADING;
     let whole = significand >> (1075 - exponent);
-    if whole < MIN_BITS { MIN_BITS } else { whole }
+    whole.max(MIN_BITS)
 }
 
 // How many samples a level of so many words has: one for every 8 words, and one for those left over.
@@ -53,5 +54,5 @@ pub fn samples(words: u64) -> u64
     requires { words ≤ words_for max_bits }
     ensures { result ≡ samples_for words }
 {
-    (words + (SAMPLE_WORDS - 1)) / SAMPLE_WORDS
+    words.div_ceil(SAMPLE_WORDS)
 }

@@ -1,8 +1,9 @@
 // One bit, or some words, of words that are there: bit b is bit b mod 64 of word b / 64. What a step asks, its callers have proved.
 #![tactic(auto)]
 
-ghost use Rattle.std.specs.Prelude.{◌≡◌, ◌/◌, ◌≤◌, ◌<◌, ◌++◌, length, drop, replicate};
+ghost use Rattle.std.specs.Prelude.{◌≡◌, ◌*◌, ◌/◌, ◌^◌, ◌≤◌, ◌<◌, ◌++◌, length, drop, replicate};
 ghost use Rattle.bounds.specs.Bounds.{max_bits};
+ghost use Rattle.laws.specs.Counting.{rank};
 ghost use Rattle.laws.specs.Bits.{words_for, has, with_bit, without_bit};
 ghost use Rattle.words.specs.Steps.{Step};
 
@@ -11,7 +12,7 @@ pub fn u64s(bits: u64) -> u64
     requires { bits ≤ max_bits }
     ensures { result ≡ words_for bits }
 {
-    (bits + 63) / 64
+    bits.div_ceil(64)
 }
 
 // Whether the bit is set.
@@ -19,9 +20,7 @@ pub fn has_bit(words: &[u64], bit: u64) -> bool
     requires { bit / 64 < length words.now }
     ensures { result ≡ has words.now bit }
 {
-    let at = (bit / 64) as usize;
-    let k = bit % 64;
-    (words[at] >> k) % 2 == 1
+    (words[(bit / 64) as usize] >> (bit % 64)) % 2 == 1
 }
 
 // Sets the bit; whether it was set before.
@@ -29,14 +28,11 @@ pub fn add_bit(words: &mut [u64], bit: u64) -> bool
     requires { bit / 64 < length words.old }
     ensures { Step words.old bit (with_bit words.old bit) result words.new }
 {
-    let at = (bit / 64) as usize;
-    let k = bit % 64;
-    let w = words[at];
-    if (w >> k) % 2 == 1 {
-        return true;
+    let was = has_bit(words, bit);
+    if !was {
+        words[(bit / 64) as usize] += 1 << (bit % 64);
     }
-    words[at] = w + (1 << k);
-    false
+    was
 }
 
 // Clears the bit; whether it was set before.
@@ -44,14 +40,19 @@ pub fn drop_bit(words: &mut [u64], bit: u64) -> bool
     requires { bit / 64 < length words.old }
     ensures { Step words.old bit (without_bit words.old bit) result words.new }
 {
-    let at = (bit / 64) as usize;
-    let k = bit % 64;
-    let w = words[at];
-    if (w >> k) % 2 == 1 {
-        words[at] = w - (1 << k);
-        return true;
+    let was = has_bit(words, bit);
+    if was {
+        words[(bit / 64) as usize] -= 1 << (bit % 64);
     }
-    false
+    was
+}
+
+// How many bits of the words are set.
+pub fn count_ones(words: &[u64]) -> u64
+    requires { 64 * length words.now < 2 ^ 64 }
+    ensures { result ≡ rank (has words.now) (64 * length words.now) }
+{
+    words.iter().map(|word| word.count_ones() as u64).sum()
 }
 
 // Puts one word into the first n places.
@@ -59,7 +60,5 @@ pub fn fill(words: &mut [u64], n: usize, word: u64)
     requires { n ≤ length words.old }
     ensures { words.new ≡ replicate n word ++ drop n words.old }
 {
-    for i in 0..n {
-        words[i] = word;
-    }
+    words[..n].fill(word);
 }

@@ -1,33 +1,48 @@
 -- `build::build` meets its contract. Assumes nothing.
-use mathlib.Core.Path.{sym, subst, ◌∙◌}
+use mathlib.Core.Path.{◌≡◌, sym, ◌∙◌}
 use native.Mathlib.Omega.{arith}
 use lib.ListN.{length}
+use Rattle.std.specs.Prelude.{Ok}
+use Rattle.std.proofs.Common.{rules}
+use Rattle.std.proofs.lemmas.Result.{err_from_is_err_and}
 use Rattle.bounds.specs.Bounds.{head_sizes}
-use Rattle.run.specs.Stores.{Stores, stores}
 use Rattle.laws.specs.Stores.{zeros}
+use Rattle.run.specs.Stores.{stores, held}
 use Rattle.run.specs.Run.{Begun}
-use Rattle.build.proofs.Builds.{passed, begun, build_unknown, build_refused, build_ends}
+use Rattle.build.specs.Build.{built_of, build_checks, build_call}
+use Rattle.build.proofs.Builds.{Passed, passed, begun, build_unknown, build_refused, build_ends}
 use Rattle.build.proofs.build.Goals as goal
 
-pub returns-in_default : goal.returns-in_default
-returns-in_default c = rw (c.refused.ensures.0, c.refused.ensures.1) (build_unknown _ _ _ _ (sym c.in_default.ensures))
+pub returns-in_err-known : goal.returns-in_err-known
+returns-in_err-known c =
+    let told = err_from_is_err_and c.from_residual.result c.from_residual.ensures.1 in
+    rw (told.1, told.2) (build_unknown _ _ _ _ (sym c.try_from.ensures ∙ c.in_err-known.was))
 
-pub returns-in-Refused : goal.returns-in-Refused
-returns-in-Refused c =
-    rw (c.refused-in-Refused.ensures.0, c.refused-in-Refused.ensures.1)
-    (build_refused _ _ (stores _ _ _ _) _ (sym c.in-Known.ensures) c.in-Refused.ensures)
+pub returns-in_err-check : goal.returns-in_err-check
+returns-in_err-check c =
+    let told = err_from_is_err_and c.from_residual-in_err-check.result c.from_residual-in_err-check.ensures.1 in
+    rw (told.1, told.2)
+    (build_refused _ _ (stores _ _ c.args.collide.now c.args.rest.now) _ (sym c.try_from.ensures ∙ c.in_ok-known.was) (sym c.in_err-check.was ∙ c.check.ensures))
 
 pub begin-requires : goal.begin-requires
-begin-requires c = (passed _ _ _ _ (sym c.in_default-checked.ensures)).in_rest
+begin-requires c =
+    let p : Passed c.args.gamma (length c.args.ids.now) (length c.args.collide.now) (length c.args.rest.now)
+    = passed _ _ _ _ (sym c.check.ensures ∙ c.in_ok-check.was) in
+    p.in_rest
 
 pub build_levels-run-requires : goal.build_levels-run-requires
 build_levels-run-requires c =
-    subst (λ (s : Stores). Begun c.args.gamma (length c.args.ids.now) (zeros head_sizes) s) (sym c.begin.ensures)
-    (begun _ c.args.ids.now (stores _ _ _ _) (passed _ _ _ _ (sym c.in_default-checked.ensures)))
+    let s = stores c.args.words.now c.args.samples.now c.args.collide.now c.args.rest.now in
+    let e : Begun c.args.gamma (length c.args.ids.now) (zeros head_sizes) (held c.begin.new.lent)
+    = rw c.begin.ensures.begun (begun _ _ s (passed _ _ _ _ (sym c.check.ensures ∙ c.in_ok-check.was))) in
+    e
 
 pub returns : goal.returns
 returns c =
-    let done = sym c.in_default-checked.ensures in
-    c.end.ensures _ _
-    ∙ build_ends _ _ (stores _ _ _ _) (passed _ _ _ _ done) _ (sym c.in-Known.ensures) done c.begin.ensures _ (omega arith) (omega arith)
-    c.build_levels-run.ensures (omega arith) c.fill.ensures
+    let s = stores c.args.words.now c.args.samples.now c.args.collide.now c.args.rest.now in
+    let done : build_checks c.args.gamma (length c.args.ids.now) (length c.args.collide.now) (length c.args.rest.now) ≡ Ok tt
+    = sym c.check.ensures ∙ c.in_ok-check.was in
+    let e : built_of c.end.result (held c.end.new.lent) ≡ build_call c.args.kind c.args.gamma c.args.ids.now s
+    = c.end.ensures.after
+    ∙ build_ends _ _ s (passed _ _ _ _ done) _ (sym c.try_from.ensures ∙ c.in_ok-known.was) done c.begin.ensures.begun _ c.build_levels-run.ensures.ran (omega arith) (omega arith) (omega arith) in
+    search rules

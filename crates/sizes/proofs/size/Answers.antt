@@ -30,10 +30,6 @@ pub overflow_shr-whole : goal.overflow_shr-whole
 unfolding size_for in_float
 overflow_shr-whole c = omega (arith, (fields c.args.ids c.requires.gamma_allowed (omega arith) c.requires.ids_bounded).least)
 
-pub returns-then-whole-lt-MIN_BITS : goal.returns-then-whole-lt-MIN_BITS
+pub returns : goal.returns
 unfolding size_for in_float
-returns-then-whole-lt-MIN_BITS c = omega (arith, (fields c.args.ids c.requires.gamma_allowed (omega arith) c.requires.ids_bounded).is)
-
-pub returns-else-whole-lt-MIN_BITS : goal.returns-else-whole-lt-MIN_BITS
-unfolding size_for in_float
-returns-else-whole-lt-MIN_BITS c = omega (arith, (fields c.args.ids c.requires.gamma_allowed (omega arith) c.requires.ids_bounded).is)
+returns c = omega (arith, (fields c.args.ids c.requires.gamma_allowed (omega arith) c.requires.ids_bounded).is)
