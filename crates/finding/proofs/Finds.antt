@@ -2,69 +2,66 @@
 use mathlib.Core.Path.{◌≡◌, sym, ap, ap₂, ◌∙◌}
 use mathlib.Core.Bool.{Bool, true, false}
 use mathlib.Core.List.{List}
+use mathlib.Core.Logic.{inl, inr}
 use Prim.Native.Nat.{ℕ, suc, ◌+◌, ◌/◌, ◌≤◌, ◌<◌}
+use native.Mathlib.Nat.{eq-or-lt_of_le, le_of_suc-le-suc}
+use native.Mathlib.Numerals.{add-one}
 use native.Mathlib.Omega.{arith}
 use lib.ListN.{length, get_or, take, drop, length-take, length-drop}
-use borrow.Author.Tests.{le-leb, lt-leb, lt-ltb, le-ltb}
-use Rattle.bounds.specs.Bounds.{max_ids, max_bits, sample_bits}
+use lib.Seq.{get_or-take}
+use borrow.Author.Tests.{le-leb, lt-ltb}
+use Rattle.bounds.specs.Bounds.{max_ids, max_bits, min_bits, sample_bits}
 use Rattle.laws.specs.Bits.{has, words_for}
 use Rattle.laws.proofs.Sums.{sum_mono}
 use Rattle.ranks.specs.Ranks.{ones_from}
-use Rattle.refusal.specs.declared.Refusal.TheVariants.{UnfitRow}
 use Rattle.rule.proofs.Reader.{first_is, first_none}
-use Rattle.head.specs.Layout.{samples_of_size, size_at, level_words, level_samples}
-use Rattle.head.specs.Fit.{Fit}
-use Rattle.finding.specs.Find.{found, nothing, refused_for, row_answer, level_answer, find_in}
-use Rattle.head.proofs.Fits.{Walk}
+use Rattle.head.specs.Layout.{samples_of_size, size_at, level_words, level_samples, fit}
+use Rattle.finding.specs.Find.{found, nothing, row_answer, level_answer, find_in}
+use Rattle.head.proofs.Fits.{fit_known, Walk}
 
 -- ---- the row of a set bit
 
-module _ (count : ℕ) (ws ss : List ℕ) (i p : ℕ) where
-  pub sample_high : max_ids < get_or ss (p / sample_bits) 0 → row_answer count ws ss i p ≡ refused_for UnfitRow
-  unfolding row_answer
-  sample_high h = rw (lt-leb (get_or ss (p / sample_bits) 0) max_ids h)
-
-  pub row_high : get_or ss (p / sample_bits) 0 ≤ max_ids → count ≤ get_or ss (p / sample_bits) 0 + ones_from ws p → row_answer count ws ss i p ≡ refused_for UnfitRow
-  unfolding row_answer
-  row_high s h = rw (le-leb (get_or ss (p / sample_bits) 0) max_ids s, le-ltb (get_or ss (p / sample_bits) 0 + ones_from ws p) count h)
-
-  pub row_good : get_or ss (p / sample_bits) 0 ≤ max_ids → get_or ss (p / sample_bits) 0 + ones_from ws p < count
-      → row_answer count ws ss i p ≡ found (record { row = get_or ss (p / sample_bits) 0 + ones_from ws p; level = i; position = p })
-  unfolding row_answer
-  row_good s h = rw (le-leb (get_or ss (p / sample_bits) 0) max_ids s, lt-ltb (get_or ss (p / sample_bits) 0 + ones_from ws p) count h)
-
--- ---- a position has its word and its sample in the part of its level
-
-module _ (store : List ℕ) (at n s p : ℕ) (within : p < s) (room : at + n ≤ length store) where
-  part_length : length (take n (drop at store)) ≡ n
-  part_length = simp (length-take, length-drop) (omega arith)
-
-  pub spot_word : n ≡ words_for s → p / 64 < length (take n (drop at store))
-  spot_word e = rw part_length (omega arith)
-
-  pub spot-sample : n ≡ samples_of_size s → p / sample_bits < length (take n (drop at store))
-  spot-sample e = rw part_length (omega arith)
+pub row_good : (count : ℕ) (ws ss : List ℕ) (i p : ℕ) → get_or ss (p / sample_bits) 0 ≤ max_ids → get_or ss (p / sample_bits) 0 + ones_from ws p < count
+    → row_answer count ws ss i p ≡ found (record { row = get_or ss (p / sample_bits) 0 + ones_from ws p; level = i; position = p })
+unfolding row_answer
+row_good count ws ss i p s h = rw (le-leb (get_or ss (p / sample_bits) 0) max_ids s, lt-ltb (get_or ss (p / sample_bits) 0 + ones_from ws p) count h)
 
 -- ---- one level of a head that fits, where the levels before it are walked over
 
-pub record Turn (sizes ws ss : List ℕ) (i at sampled taken : ℕ) : Type 0 where
-  pub positive : 0 < size_at sizes i
-  pub small : size_at sizes i ≤ max_bits
-  pub word_room : at + taken ≤ length ws
+-- its size, and its part of each store
+pub record Turn (levels : ℕ) (sizes ws ss : List ℕ) (i at sampled : ℕ) : Type 0 where
+  pub here : i < levels
+  pub size_is : get_or (take levels sizes) i 0 ≡ size_at sizes i
+  pub least : min_bits ≤ size_at sizes i
+  pub most : size_at sizes i ≤ max_bits
+  pub word_room : at + words_for (size_at sizes i) ≤ length ws
   pub sample_room : sampled + samples_of_size (size_at sizes i) ≤ length ss
-  pub words_are : take taken (drop at ws) ≡ level_words (size_at sizes) ws i
+  pub words_are : take (words_for (size_at sizes i)) (drop at ws) ≡ level_words (size_at sizes) ws i
   pub samples_are : take (samples_of_size (size_at sizes i)) (drop sampled ss) ≡ level_samples (size_at sizes) ss i
 
-pub turn : (count levels : ℕ) (sizes ws ss : List ℕ) (i at sampled taken : ℕ) → Fit count levels sizes (length ws) (length ss) → i < levels
-    → Walk sizes i at sampled → taken ≡ words_for (size_at sizes i) → Turn sizes ws ss i at sampled taken
-turn count levels sizes ws ss i at sampled taken f h w e = record {
-  positive = omega (arith, f.bounds.size_least i h);
-  small = f.bounds.size_most i h;
-  word_room = omega (arith, f.word_room, w.words_are, sum_mono (λ j. words_for (size_at sizes j)) {m = suc i} {n = levels} h);
-  sample_room = omega (arith, f.sample_room, w.samples_are, sum_mono (λ j. samples_of_size (size_at sizes j)) {m = suc i} {n = levels} h);
-  words_are = ap₂ (λ (n k : ℕ). take n (drop k ws)) e w.words_are;
-  samples_are = ap (λ (k : ℕ). take (samples_of_size (size_at sizes i)) (drop k ss)) w.samples_are;
-}
+pub turn : (count levels : ℕ) (sizes ws ss : List ℕ) (i at sampled : ℕ) → fit count levels sizes (length ws) (length ss) ≡ true → i < length (take levels sizes)
+    → Walk sizes i at sampled → Turn levels sizes ws ss i at sampled
+turn count levels sizes ws ss i at sampled e l w =
+    let f = fit_known _ _ _ _ _ e in
+    let h : i < levels = omega (arith, length-take levels sizes) in
+    record {
+      here = h;
+      size_is = get_or-take levels sizes i 0 h;
+      least = f.bounds.size_least i h;
+      most = f.bounds.size_most i h;
+      word_room = omega (arith, f.word_room, w.words_are, sum_mono (λ j. words_for (size_at sizes j)) {m = suc i} {n = levels} h);
+      sample_room = omega (arith, f.sample_room, w.samples_are, sum_mono (λ j. samples_of_size (size_at sizes j)) {m = suc i} {n = levels} h);
+      words_are = ap (λ (k : ℕ). take (words_for (size_at sizes i)) (drop k ws)) w.words_are;
+      samples_are = ap (λ (k : ℕ). take (samples_of_size (size_at sizes i)) (drop k ss)) w.samples_are;
+    }
+
+-- a position below the size has its word and its sample in the parts of the level
+module _ (levels : ℕ) (sizes ws ss : List ℕ) (i at sampled : ℕ) (t : Turn levels sizes ws ss i at sampled) (p : ℕ) (below : p < size_at sizes i) where
+  pub spot_word : (us : List ℕ) → us ≡ take (words_for (size_at sizes i)) (drop at ws) → p / 64 < length us
+  spot_word us e = omega (arith, ap length e, length-take (words_for (size_at sizes i)) (drop at ws), length-drop at ws, t.word_room)
+
+  pub spot-sample : (vs : List ℕ) → vs ≡ take (samples_of_size (size_at sizes i)) (drop sampled ss) → p / sample_bits < length vs
+  spot-sample vs e = omega (arith, ap length e, length-take (samples_of_size (size_at sizes i)) (drop sampled ss), length-drop sampled ss, t.sample_room)
 
 -- ---- the first level that has the bit
 
@@ -86,18 +83,23 @@ module _ (pos : (level size id : ℕ) → ℕ) (count : ℕ) (span : ℕ → ℕ
 
 -- ---- what a turn of the walk tells
 
-module _ (pos : (level size id : ℕ) → ℕ) (count : ℕ) (sizes ws ss : List ℕ) (x i at sampled taken : ℕ) (t : Turn sizes ws ss i at sampled taken) (us : List ℕ) (p : ℕ)
-    (us-are : us ≡ take taken (drop at ws)) (p-is : p ≡ pos i (size_at sizes i) x) where
-  bit_here : has us p ≡ bit_at pos count (size_at sizes) ws ss x i
-  bit_here = ap₂ has (us-are ∙ t.words_are) p-is
+module _ (pos : (level size id : ℕ) → ℕ) (count levels : ℕ) (sizes ws ss : List ℕ) (x i at sampled : ℕ) (t : Turn levels sizes ws ss i at sampled) (us : List ℕ) (p : ℕ)
+    (us-are : us ≡ take (words_for (size_at sizes i)) (drop at ws)) (p-is : p ≡ pos i (size_at sizes i) x) (told : Bool) (has_it : told ≡ has us p) where
+  bit_here : told ≡ bit_at pos count (size_at sizes) ws ss x i
+  bit_here = has_it ∙ ap₂ has (us-are ∙ t.words_are) p-is
 
-  pub not_here : (told : Bool) → told ≡ has us p → told ≡ false → bit_at pos count (size_at sizes) ws ss x i ≡ false
-  not_here told e f = sym bit_here ∙ sym e ∙ f
+  pub still_none : told ≡ false → ((m : ℕ) → m < i → bit_at pos count (size_at sizes) ws ss x m ≡ false) → (m : ℕ) → m < i + 1
+      → bit_at pos count (size_at sizes) ws ss x m ≡ false
+  still_none f before m h =
+      elim (eq-or-lt_of_le (le_of_suc-le-suc (rw (add-one i) at h))) [
+        | inl e ↦ rw e (sym bit_here ∙ f)
+        | inr l ↦ before m l
+      ]
 
-  pub here_found : (levels : ℕ) → i < levels → ((m : ℕ) → m < i → bit_at pos count (size_at sizes) ws ss x m ≡ false) → (told : Bool) → told ≡ has us p
-      → told ≡ true → (vs : List ℕ) → vs ≡ take (samples_of_size (size_at sizes i)) (drop sampled ss)
+  pub here_found : told ≡ true → ((m : ℕ) → m < i → bit_at pos count (size_at sizes) ws ss x m ≡ false) → (vs : List ℕ)
+      → vs ≡ take (samples_of_size (size_at sizes i)) (drop sampled ss)
       → row_answer count us vs i p ≡ find_in pos count (size_at sizes) ws ss x levels
-  here_found levels h before told e f vs vs-are =
+  here_found f before vs vs-are =
       let u : us ≡ level_words (size_at sizes) ws i = us-are ∙ t.words_are in
       let v : vs ≡ level_samples (size_at sizes) ss i = vs-are ∙ t.samples_are in
-      rw (u, v, p-is) (sym (found_at pos count (size_at sizes) ws ss x levels i h before (sym bit_here ∙ sym e ∙ f)))
+      rw (u, v, p-is) (sym (found_at pos count (size_at sizes) ws ss x levels i t.here before (sym bit_here ∙ f)))

@@ -1,9 +1,10 @@
--- The row of an answer: it is below the count, and the case of the enum tells it. Assumes nothing.
+-- The row of an answer: it is below the count, and the result of `find` tells it. Assumes nothing.
 use mathlib.Core.Path.{◌≡◌, refl, sym, ap, ◌∙◌}
 use mathlib.Core.Bool.{Bool, true, false, cond, ◌&&◌}
 use mathlib.Core.List.{List}
-use mathlib.Core.Option.{Option, none, some}
+use mathlib.Core.Option.{none, some}
 use Prim.Native.Nat.{ℕ, ◌+◌, ◌/◌, ◌<◌}
+use Rattle.std.specs.Prelude.{Option, Result, Ok, Err, Some, None}
 use native.Mathlib.Omega.{arith}
 use borrow.Author.Tests.{ltb-true}
 use lib.Dec.{leb, ltb}
@@ -12,13 +13,12 @@ use Rattle.bounds.specs.Bounds.{max_ids, sample_bits}
 use Rattle.laws.specs.Bits.{has}
 use Rattle.laws.proofs.Cases.{both}
 use Rattle.ranks.specs.Ranks.{ones_from}
+use Rattle.refusal.specs.declared.Refusal.{Refusal}
 use Rattle.refusal.specs.declared.Refusal.TheVariants.{UnfitRow}
 use Rattle.rule.specs.Rule.{first}
 use Rattle.head.specs.Layout.{level_words}
 use Rattle.finding.specs.Find.{found, refused_for, answer_of, row_in, row_answer, level_answer, find_in}
 use Rattle.finding.specs.declared.Place.{Place}
-use Rattle.finding.specs.declared.Found.{Found}
-use Rattle.finding.specs.declared.Found.TheVariants as F
 
 -- ---- an answered row is below the count
 
@@ -38,20 +38,20 @@ pub found_below : (pos : (level size id : ℕ) → ℕ) (count : ℕ) (span : �
 unfolding find_in
 found_below pos count span ws ss x levels r e = go (first pos span (λ i. has (level_words span ws i)) levels 0 x) e
   where
-    go : (o : Option ℕ) → row_in (level_answer pos count span ws ss x o) ≡ some r → r < count
+    go : (o : mathlib.Core.Option.Option ℕ) → row_in (level_answer pos count span ws ss x o) ≡ some r → r < count
     go none q = let z : ◌≡◌ {A = ℕ} 0 1 = cc in absurd (omega arith)
     go (some i) q = answer_below count _ _ i _ r q
 
--- ---- the row, by the answer of `find`: a case of the enum
+-- ---- the row, by the result of `find`
 
-pub told : (f : Found) (p : Place) → f ≡ F.Row p → row_in (answer_of f) ≡ some p.row
-told f p q = ap (λ (g : Found). row_in (answer_of g)) q
+pub told : (f : Result (Option Place) Refusal) (p : Place) → f ≡ Ok (Some p) → row_in (answer_of f) ≡ some p.row
+told f p q = ap (λ (g : Result (Option Place) Refusal). row_in (answer_of g)) q
 
-pub not_told : (f : Found) → ((p : Place) → f ≡ F.Row p → ⊥) → row_in (answer_of f) ≡ none
-not_told (F.Row p) n = absurd (n p refl)
-not_told F.None n = refl
-not_told (F.Refused r) n = refl
+pub not_told : (f : Result (Option Place) Refusal) → ((p : Place) → f ≡ Ok (Some p) → ⊥) → row_in (answer_of f) ≡ none
+not_told (Ok (Some p)) n = absurd (n p refl)
+not_told (Ok None) n = refl
+not_told (Err r) n = refl
 
-pub told_below : (pos : (level size id : ℕ) → ℕ) (count : ℕ) (span : ℕ → ℕ) (ws ss : List ℕ) (x levels : ℕ) (f : Found) (p : Place) → answer_of f ≡ find_in pos count span ws ss x levels
-    → f ≡ F.Row p → p.row < count
+pub told_below : (pos : (level size id : ℕ) → ℕ) (count : ℕ) (span : ℕ → ℕ) (ws ss : List ℕ) (x levels : ℕ) (f : Result (Option Place) Refusal) (p : Place)
+    → answer_of f ≡ find_in pos count span ws ss x levels → f ≡ Ok (Some p) → p.row < count
 told_below pos count span ws ss x levels f p e q = found_below pos count span ws ss x levels p.row (ap row_in (sym e) ∙ told f p q)

@@ -1,5 +1,5 @@
 -- The row of any number in levels that lie in stores, wherever they come from.
-use Rattle.std.specs.Prelude.{ℕ, ◌+◌, ◌/◌, ◌&&◌, List, leb, ltb, get_or}
+use Rattle.std.specs.Prelude.{ℕ, ◌+◌, ◌/◌, ◌&&◌, List, leb, ltb, get_or, Result, Ok, Err, Some, None}
 use Rattle.std.proofs.Math.Option.{Option, none, some}
 use Rattle.bounds.specs.Bounds.{max_ids, sample_bits}
 use Rattle.laws.specs.Bits.{has}
@@ -10,8 +10,7 @@ use Rattle.refusal.specs.declared.Refusal.{Refusal}
 use Rattle.refusal.specs.declared.Refusal.TheVariants.{UnfitRow}
 use Rattle.rule.specs.Rule.{RowPlace, first}
 use Rattle.head.specs.Layout.{level_words, level_samples}
-use Rattle.finding.specs.declared.Found.{Found}
-use Rattle.finding.specs.declared.Found.TheVariants as F
+use Rattle.finding.specs.declared.Place.{Place}
 
 -- what a lookup answers: a row with its level and position, none, or a refusal with its number and value
 pub data Answer : Type 0 where
@@ -22,11 +21,11 @@ pub data Answer : Type 0 where
 abbrev pub refused_for : Refusal → Answer
 refused_for r = refused (number_of r) (value_of r)
 
--- the answer that each case of the enum is
-abbrev pub answer_of : Found → Answer
-answer_of (F.Row p) = found (record { row = p.row; level = p.level; position = p.position })
-answer_of F.None = nothing
-answer_of (F.Refused r) = refused_for r
+-- the answer that a result is
+abbrev pub answer_of : Result (Rattle.std.specs.Prelude.Option Place) Refusal → Answer
+answer_of (Ok (Some p)) = found (record { row = p.row; level = p.level; position = p.position })
+answer_of (Ok None) = nothing
+answer_of (Err r) = refused_for r
 
 -- the row of an answer; a refusal counts as no row
 abbrev pub row_in : Answer → Option ℕ

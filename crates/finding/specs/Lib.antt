@@ -1,2 +1,3 @@
 -- What a user has to believe.
 pub mod Find
+pub mod Fitting
