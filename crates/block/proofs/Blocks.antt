@@ -6,6 +6,8 @@ use Prim.Native.Nat.{ℕ, zero, suc, ◌+◌, ◌*◌, ◌/◌, ◌%◌, ◌^◌
 use native.Mathlib.Numerals.{add-one, one-add}
 use native.Mathlib.Omega.{arith}
 use borrow.Author.Tests.{eqb-true, eq-eqb}
+use Rattle.std.specs.Prelude.{Option, None, Some, MatchOption}
+use Rattle.std.specs.Option.{unwrap_or}
 use lib.Dec.{eqb, lit<}
 use lib.ListN.{length, get_or, get_or-append}
 use lib.Pow.{pow_pos}
@@ -17,7 +19,7 @@ use Rattle.laws.proofs.Lists.{words_append, words_chain, words_cons, words_each}
 use Rattle.laws.proofs.Cases.{Tri, lt, eq, gt, tri, both}
 use Rattle.block.specs.Bytes.{all_bytes, word_at}
 use Rattle.block.specs.Block.{block_words, block_content, check_place, check_of, content_place, checked_words, block_of, image_words, block_word, is_good, first_bad, content_at}
-use Rattle.block.proofs.Checks.{bad_none, good_more}
+use Rattle.block.proofs.Checks.{bad_none, good_more, bad_first}
 use Rattle.block.proofs.Undone.{check-lt}
 use Rattle.block.proofs.Whole.{word_bytes_lem}
 use Rattle.block.proofs.Written.{length-block, length_image}
@@ -116,6 +118,13 @@ module _ (bytes : List ℕ) where
   pub none_bad : (n : ℕ) → ((b : ℕ) → b < n → is_good bytes b ≡ true) → first_bad bytes n ≡ n
   none_bad zero g = bad_none bytes
   none_bad (suc n) g = ap (first_bad bytes) (sym (add-one n)) ∙ good_more bytes n (none_bad n (λ b h. g b (omega arith))) (g n (omega arith)) ∙ add-one n
+
+  -- what a search for the first that is not good comes to
+  pub bad_is : (n : ℕ) (found : Option ℕ)
+      → MatchOption found ((k : ℕ) → 0 ≤ k → k < n → is_good bytes k ≡ true) (λ b. (0 ≤ b) × (b < n) × (is_good bytes b ≡ false) × ((k : ℕ) → 0 ≤ k → k < b → is_good bytes k ≡ true))
+      → unwrap_or found n ≡ first_bad bytes n
+  bad_is n None g = sym (none_bad n (λ b h. g b (omega arith) h))
+  bad_is n (Some b) g = sym (bad_first bytes b (none_bad b (λ k h. g.3 k (omega arith) h)) n g.1 g.2)
 
   bad_le : (n : ℕ) → first_bad bytes n ≤ n
   unfolding first_bad

@@ -8,8 +8,8 @@ use native.Mathlib.Numerals.{add-one}
 use native.Mathlib.Omega.{arith}
 use borrow.Author.Tests.{eq-eqb, ne_eqb}
 use lib.Dec.{eqb}
+use Rattle.std.specs.List.{fold}
 use Rattle.laws.specs.Counting.{each}
-use Rattle.laws.proofs.Chains.{each-suc}
 use Rattle.laws.proofs.Cases.{Tri, lt, eq, gt, tri}
 use Rattle.block.specs.Bytes.{word_at}
 use Rattle.block.specs.Block.{block_words, check_place, check_step, check_from, check_of, block_word, is_good, first_bad}
@@ -29,13 +29,11 @@ pub check_next : (us : List ℕ) (check word next : ℕ) → check ≡ check_of 
 unfolding check_from
 check_next us check word next e s = s ∙ ap (λ (k : ℕ). check_step k word) e ∙ sym (check-append 0 us (word ∷ []))
 
--- words that a function gives, one by one
-pub check_none : (f : ℕ → ℕ) → 0 ≡ check_of (each f 0)
-unfolding check_from each
-check_none f = refl
-
-pub check_more : (f : ℕ → ℕ) (n check word next : ℕ) → check ≡ check_of (each f n) → word ≡ f n → next ≡ check_step check word → next ≡ check_of (each f (n + 1))
-check_more f n check word next e w s = rw (add-one n, each-suc f n, ← w) (check_next (each f n) check word next e s)
+-- as a fold
+pub check_fold : (k : ℕ) (words : List ℕ) → fold check_step k words ≡ check_from k words
+unfolding check_from
+check_fold k [] = refl
+check_fold k (w ∷ words) = check_fold (check_step k w) words
 
 -- ---- whether a block is good
 

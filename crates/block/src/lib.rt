@@ -23,15 +23,8 @@ pub fn word_at(bytes: &[u8], j: usize) -> u64
     requires { word_bytes * j + word_bytes ≤ length bytes.now }
     ensures { result ≡ word_at bytes.now j }
 {
-    let at = WORD_BYTES * j;
-    bytes[at] as u64
-        + bytes[at + 1] as u64 * 0x100
-        + bytes[at + 2] as u64 * 0x1_0000
-        + bytes[at + 3] as u64 * 0x100_0000
-        + bytes[at + 4] as u64 * 0x1_0000_0000
-        + bytes[at + 5] as u64 * 0x100_0000_0000
-        + bytes[at + 6] as u64 * 0x1_0000_0000_0000
-        + bytes[at + 7] as u64 * 0x100_0000_0000_0000
+    let (words, _) = bytes.as_chunks::<WORD_BYTES>();
+    u64::from_le_bytes(words[j])
 }
 
 // Writes a word at place j.
@@ -40,14 +33,7 @@ pub fn put_word(bytes: &mut [u8], j: usize, word: u64)
     ensures { bytes.new ≡ pasted (word_bytes * j) (bytes_of word) bytes.old }
 {
     let at = WORD_BYTES * j;
-    bytes[at] = (word % 0x100) as u8;
-    bytes[at + 1] = ((word >> 8) % 0x100) as u8;
-    bytes[at + 2] = ((word >> 16) % 0x100) as u8;
-    bytes[at + 3] = ((word >> 24) % 0x100) as u8;
-    bytes[at + 4] = ((word >> 32) % 0x100) as u8;
-    bytes[at + 5] = ((word >> 40) % 0x100) as u8;
-    bytes[at + 6] = ((word >> 48) % 0x100) as u8;
-    bytes[at + 7] = ((word >> 56) % 0x100) as u8;
+    bytes[at..at + WORD_BYTES].copy_from_slice(&word.to_le_bytes());
 }
 
 // The check with one word more.
@@ -62,12 +48,13 @@ fn check_at(image: &[u8], b: usize) -> u64
     requires { block_bytes * b + block_bytes ≤ length image.now }
     ensures { result ≡ check_of (each (block_word image.now b) check_place) }
 {
+    let (words, _) = image.as_chunks::<WORD_BYTES>();
     let first = BLOCK_WORDS * b;
-    let mut check: u64 = 0;
-    for w in 0..CHECK_PLACE {
-        check = check_step(check, word_at(image, first + w));
-    }
-    check
+    words[first..first + CHECK_PLACE]
+        .iter()
+        .copied()
+        .map(u64::from_le_bytes)
+        .fold(0, check_step)
 }
 
 // Whether block b has its number and its check.
@@ -76,10 +63,7 @@ fn is_good(image: &[u8], b: usize) -> bool
     ensures { result ≡ is_good image.now b }
 {
     let first = BLOCK_WORDS * b;
-    if word_at(image, first) != b as u64 {
-        return false;
-    }
-    word_at(image, first + CHECK_PLACE) == check_at(image, b)
+    word_at(image, first) == b as u64 && word_at(image, first + CHECK_PLACE) == check_at(image, b)
 }
 
 // The first of n blocks that is not good; n if all are.
@@ -87,12 +71,7 @@ pub fn first_bad(image: &[u8], n: usize) -> usize
     requires { block_bytes * n ≤ length image.now }
     ensures { result ≡ first_bad image.now n }
 {
-    for b in 0..n {
-        if !is_good(image, b) {
-            return b;
-        }
-    }
-    n
+    (0..n).find(|&b| !is_good(image, b)).unwrap_or(n)
 }
 
 // Content word c.
@@ -108,9 +87,7 @@ pub fn content_at(image: &[u8], c: usize) -> u64
 
 // How many blocks so many content words take.
 pub fn blocks_for(n: u64) -> u64
-    requires { n ≤ 0xFFFF_FFFF_FFFF }
     ensures { result ≡ blocks_for n }
 {
-    let content = BLOCK_CONTENT as u64;
-    (n + (content - 1)) / content
+    n.div_ceil(BLOCK_CONTENT as u64)
 }

@@ -1,58 +1,63 @@
 -- The call `read`, case by case. Assumes nothing.
 use mathlib.Core.Path.{◌≡◌, refl, sym, ap, ap₂, ◌∙◌}
-use mathlib.Core.Bool.{Bool, true, false, ◌&&◌, cond}
+use mathlib.Core.Bool.{Bool, true, false, false≢true, ◌&&◌, ◌||◌, cond}
 use mathlib.Core.List.{List, ◌++◌}
 use Prim.Native.Nat.{ℕ, ◌+◌, ◌-◌, ◌*◌, ◌%◌, ◌≤◌, ◌<◌}
 use native.Mathlib.Omega.{arith}
 use borrow.Author.Tests.{eqb-true, eq-eqb, ne_eqb, leb-true, le-leb, lt-leb}
 use lib.Dec.{eqb, leb}
 use lib.ListN.{length, take, drop, length-append, length-drop, length-replicate}
+use Rattle.std.specs.Prelude.{Result, Ok, Err, None, Some}
+use Rattle.std.specs.Bool.{then_some}
 use Rattle.laws.specs.Counting.{is_clear}
 use Rattle.laws.specs.Stores.{zeros, filled}
 use Rattle.laws.proofs.Chains.{length-each}
 use Rattle.laws.proofs.Cases.{both, refuted}
 use Rattle.laws.proofs.Parts.{lent_from, take_same, filled_exact}
 use Rattle.mixer.specs.declared.Kind.{Kind}
-use Rattle.mixer.specs.declared.KindOf.TheVariants.{Known, Unknown}
 use Rattle.mixer.specs.Kinds.{kind_of}
 use Rattle.head.specs.declared.Head.{Head}
 use Rattle.head.specs.declared.Used.{Used}
-use Rattle.head.specs.declared.Measured.TheVariants.{Uses, Unfit}
+use Rattle.head.specs.Fit.{measured}
+use Rattle.head.proofs.Fits.{uses_known}
 use Rattle.head.specs.Index.{no_head}
 use Rattle.head.specs.Layout.{bounded, used_of, used_by, used_words, used_samples, unused_clear}
 use Rattle.head.specs.Numbers.{head_numbers}
 use Rattle.refusal.specs.Answers.{Outcome, answered, refused, check}
-use Rattle.refusal.specs.declared.Made.{Made}
-use Rattle.refusal.specs.declared.Made.TheVariants as M
 use Rattle.refusal.specs.declared.Refusal.{Refusal}
-use Rattle.refusal.specs.declared.Refusal.TheVariants.{ShortOutput, UnfitLength, BadBlock, UnfitContent, UnknownKind}
-use Rattle.refusal.proofs.Passed.{done_passed}
-use Rattle.block.specs.Block.{block_content, block_bytes, first_bad, content_at}
-use Rattle.image.specs.Image.{older_form, is_form, head_place, left_out, words_place, content_end, image_blocks, min_blocks, block_count, length_fits, bad_block, content_from, form_in, numbers_in, head_in, words_in, samples_in, holds_index, ReadAfter, read_after, read_of, read_call, block_checks}
-use Rattle.image.specs.Steps.{content_measured}
+use Rattle.refusal.specs.declared.Refusal.TheVariants.{ShortOutput, UnfitLength, BadBlock, UnfitContent}
+use Rattle.refusal.proofs.Passed.{ok_passed}
+use Rattle.block.specs.Block.{block_content, block_bytes, blocks_for, first_bad, content_at}
+use Rattle.image.specs.Image.{form, older_form, is_form, head_place, left_out, words_place, content_end, image_blocks, min_blocks, block_count, length_fits, bad_block, content_from, form_in, numbers_in, head_in, words_in, samples_in, holds_index, ReadAfter, read_after, read_of, read_call, block_checks}
+use Rattle.image.specs.Steps.{has_room, form_number, form_of, content_measured}
+use Rattle.image.specs.declared.reading.Form.{Form}
+use Rattle.image.specs.declared.reading.Form.TheVariants.{Current, Older}
 
 -- ---- the checks of the blocks
 
 module _ (image : List ℕ) where
-  pub too_short : length image < block_bytes * min_blocks → M.Refused UnfitLength ≡ block_checks image
+  pub no_length : length_fits image ≡ false → Err UnfitLength ≡ block_checks image
   unfolding block_checks
-  too_short h = rw (lt-leb (block_bytes * min_blocks) (length image) h)
+  no_length e = rw e
+
+  pub too_short : length image < block_bytes * min_blocks → Err UnfitLength ≡ block_checks image
+  too_short h = no_length (rw (lt-leb (block_bytes * min_blocks) (length image) h))
 
   module _ (long : block_bytes * min_blocks ≤ length image) where
-    pub not_whole : (length image % block_bytes ≡ 0 → ⊥) → M.Refused UnfitLength ≡ block_checks image
-    unfolding block_checks
-    not_whole n = rw (le-leb (block_bytes * min_blocks) (length image) long, ne_eqb (length image % block_bytes) 0 n)
+    pub not_whole : (length image % block_bytes ≡ 0 → ⊥) → Err UnfitLength ≡ block_checks image
+    not_whole n = no_length (rw (le-leb (block_bytes * min_blocks) (length image) long, ne_eqb (length image % block_bytes) 0 n))
 
     module _ (whole : length image % block_bytes ≡ 0) (bad : ℕ) (e : bad ≡ first_bad image (block_count image)) where
-      pub bad_block_lem : (bad ≡ block_count image → ⊥) → M.Refused (BadBlock bad) ≡ block_checks image
-      unfolding block_checks
-      bad_block_lem n =
-          rw (le-leb (block_bytes * min_blocks) (length image) long, eq-eqb (length image % block_bytes) 0 whole, ← e, ne_eqb bad (block_count image) n)
+      fits : length_fits image ≡ true
+      fits = rw (le-leb (block_bytes * min_blocks) (length image) long, eq-eqb (length image % block_bytes) 0 whole)
 
-      pub good_blocks : bad ≡ block_count image → M.Done ≡ block_checks image
+      pub bad_block_lem : (bad ≡ block_count image → ⊥) → Err (BadBlock bad) ≡ block_checks image
       unfolding block_checks
-      good_blocks g =
-          rw (le-leb (block_bytes * min_blocks) (length image) long, eq-eqb (length image % block_bytes) 0 whole, ← e, eq-eqb bad (block_count image) g)
+      bad_block_lem n = rw (fits, ← e, ne_eqb bad (block_count image) n)
+
+      pub good_blocks : bad ≡ block_count image → Ok tt ≡ block_checks image
+      unfolding block_checks
+      good_blocks g = rw (fits, ← e, eq-eqb bad (block_count image) g)
 
 -- ---- the numbers of the head
 
@@ -104,39 +109,87 @@ module _ (image : List ℕ) (count levels : ℕ) (sizes : List ℕ) where
   holds_is h = rw (h.bounds, h.unused, eq-eqb (block_count image) (image_blocks (form_in image) (used_of levels sizes)) h.blocks, h.past)
 
   -- what is measured, by whether they do
-  pub not_held : (Holds → ⊥) → Unfit ≡ content_measured image count levels sizes
+  pub not_held : (Holds → ⊥) → None ≡ content_measured image count levels sizes
   unfolding content_measured
   not_held n = rw (refuted (holds_index image count levels sizes) (λ e. n (holds_known e)))
 
-  pub held : (used : Used) → used ≡ used_of levels sizes → Holds → Uses used ≡ content_measured image count levels sizes
-  unfolding content_measured
-  held used e h = rw (holds_is h, e)
+  pub sizes_left : unused_clear levels sizes ≡ false → None ≡ content_measured image count levels sizes
+  sizes_left e = not_held (λ h. false≢true (sym e ∙ h.unused))
+
+  -- further parts, where the levels use so much and the words begin at this place
+  module _ (used : Used) (uses : Some used ≡ measured count levels sizes) (place : ℕ) (p : place ≡ words_place (form_in image)) where
+    abbrev end : ℕ
+    end = place + used.words + used.samples
+
+    used_is : used ≡ used_of levels sizes
+    used_is = (uses_known count levels sizes used uses).1
+
+    end_is : end ≡ content_end (form_in image) (used_of levels sizes)
+    end_is = ap₂ (λ (at : ℕ) (v : Used). at + v.words + v.samples) p used_is
+
+    module _ (n : ℕ) (takes : n ≡ blocks_for end) where
+      pub other_blocks : (block_count image ≡ n → ⊥) → None ≡ content_measured image count levels sizes
+      other_blocks e = not_held (λ h. e (h.blocks ∙ sym (takes ∙ ap blocks_for end_is)))
+
+      pub past_clear : unused_clear levels sizes ≡ true → block_count image ≡ n → (clear : Bool) → clear ≡ is_clear (content_at image) end (block_content * block_count image)
+          → then_some clear used ≡ content_measured image count levels sizes
+      unfolding content_measured
+      past_clear unused blocks true e =
+          rw (holds_is (record {
+            bounds = (uses_known count levels sizes used uses).0;
+            unused = unused;
+            blocks = blocks ∙ takes ∙ ap blocks_for end_is;
+            past = ap (λ (at : ℕ). is_clear (content_at image) at (block_content * block_count image)) (sym end_is) ∙ sym e;
+          })) (ap Some used_is)
+      past_clear unused blocks false e =
+          not_held (λ h. false≢true (e ∙ ap (λ (at : ℕ). is_clear (content_at image) at (block_content * block_count image)) end_is ∙ h.past))
 
   -- and read back
-  pub held_known : (used : Used) → Uses used ≡ content_measured image count levels sizes → Holds × (used ≡ used_of levels sizes)
+  pub held_known : (used : Used) → Some used ≡ content_measured image count levels sizes → Holds × (used ≡ used_of levels sizes)
   unfolding content_measured
   held_known used e = go (holds_index image count levels sizes) refl e
     where
-      go : (b : Bool) → holds_index image count levels sizes ≡ b → Uses used ≡ cond b (Uses (used_of levels sizes)) Unfit → Holds × (used ≡ used_of levels sizes)
+      go : (b : Bool) → holds_index image count levels sizes ≡ b → Some used ≡ cond b (Some (used_of levels sizes)) None → Holds × (used ≡ used_of levels sizes)
       go true f g = (holds_known f, cc)
       go false f g = let z : ◌≡◌ {A = ℕ} 0 1 = cc in absurd (omega arith)
 
-  pub unheld_known : Unfit ≡ content_measured image count levels sizes → holds_index image count levels sizes ≡ false
+  pub unheld_known : None ≡ content_measured image count levels sizes → holds_index image count levels sizes ≡ false
   unfolding content_measured
   unheld_known e = go (holds_index image count levels sizes) refl e
     where
-      go : (b : Bool) → holds_index image count levels sizes ≡ b → Unfit ≡ cond b (Uses (used_of levels sizes)) Unfit → holds_index image count levels sizes ≡ false
+      go : (b : Bool) → holds_index image count levels sizes ≡ b → None ≡ cond b (Some (used_of levels sizes)) None → holds_index image count levels sizes ≡ false
       go true f g = let z : ◌≡◌ {A = ℕ} 0 1 = cc in absurd (omega arith)
       go false f g = f
 
+-- ---- the form
+
+pub form_known : (number : ℕ) (f : Form) → Ok f ≡ form_of number → (is_form number ≡ true) × (form_number f ≡ number)
+unfolding form_of
+form_known number f e = go (eqb number form) refl (eqb number older_form) refl e
+  where
+    go : (current : Bool) → eqb number form ≡ current → (older : Bool) → eqb number older_form ≡ older
+        → Ok f ≡ cond current (Ok Current) (cond older (Ok Older) (Err UnfitContent)) → (current || older ≡ true) × (form_number f ≡ number)
+    go true c older o q = let t : f ≡ Current = cc in (refl, rw t (sym (eqb-true _ _ c)))
+    go false c true o q = let t : f ≡ Older = cc in (refl, rw t (sym (eqb-true _ _ o)))
+    go false c false o q = let z : ◌≡◌ {A = ℕ} 0 1 = cc in absurd (omega arith)
+
+no_form_known : (number : ℕ) (why : Refusal) → Err why ≡ form_of number → (is_form number ≡ false) × (why ≡ UnfitContent)
+unfolding form_of
+no_form_known number why e = go (eqb number form) (eqb number older_form) e
+  where
+    go : (current older : Bool) → Err why ≡ cond current (Ok Current) (cond older (Ok Older) (Err UnfitContent)) → (current || older ≡ false) × (why ≡ UnfitContent)
+    go true older q = let z : ◌≡◌ {A = ℕ} 0 1 = cc in absurd (omega arith)
+    go false true q = let z : ◌≡◌ {A = ℕ} 0 1 = cc in absurd (omega arith)
+    go false false q = (refl, cc)
+
 -- ---- what is known once the checks of the blocks have passed
 
-module _ (image : List ℕ) (good : M.Done ≡ block_checks image) where
+module _ (image : List ℕ) (good : Ok tt ≡ block_checks image) where
   pub blocks_passed : (length_fits image ≡ true) × (bad_block image ≡ block_count image)
   unfolding block_checks
   blocks_passed =
-      let t = done_passed _ _ _ (sym good) in
-      (t.0, eqb-true _ _ (done_passed _ _ _ t.1).0)
+      let t = ok_passed _ _ _ (sym good) in
+      (t.0, eqb-true _ _ (ok_passed _ _ _ t.1).0)
 
   pub long_enough : block_bytes * min_blocks ≤ length image
   long_enough = leb-true _ _ (both _ _ blocks_passed.0).0
@@ -145,10 +198,10 @@ module _ (image : List ℕ) (good : M.Done ≡ block_checks image) where
 
 -- an image passes the checks up to the room of the stores
 pub record Passed (image : List ℕ) : Type 0 where
-  pub good : M.Done ≡ block_checks image
+  pub good : Ok tt ≡ block_checks image
   pub form : is_form (form_in image) ≡ true
   pub kind : Kind
-  pub known : Known kind ≡ kind_of (head_in image).kind
+  pub known : Ok kind ≡ kind_of (head_in image).kind
   pub holds : Holds image (head_in image).count (head_in image).levels (head_in image).sizes
 
 -- so the words and the samples lie in the blocks
@@ -163,27 +216,22 @@ module _ (image ws ss : List ℕ) where
   abbrev stays : Refusal → Outcome ReadAfter
   stays = refused (read_after no_head ws ss)
 
-  -- a refusal, of the code's struct
-  pub stays_as : (answer : Made) (head : Head) (why : Refusal) → answer ≡ M.Refused why → head ≡ no_head → stays why ≡ read_call image ws ss
-      → read_of answer head ws ss ≡ read_call image ws ss
-  stays_as answer head why a h e = ap₂ (λ (m : Made) (k : Head). read_of m k ws ss) a h ∙ e
-
-  pub read_refused : (why : Refusal) → M.Refused why ≡ block_checks image → stays why ≡ read_call image ws ss
+  pub read_refused : (why : Refusal) → Err why ≡ block_checks image → stays why ≡ read_call image ws ss
   unfolding read_call
   read_refused why e = rw (← e)
 
-  module _ (good : M.Done ≡ block_checks image) where
-    pub no_form : is_form (form_in image) ≡ false → stays UnfitContent ≡ read_call image ws ss
+  module _ (good : Ok tt ≡ block_checks image) where
+    pub no_form : (why : Refusal) → Err why ≡ form_of (form_in image) → stays why ≡ read_call image ws ss
     unfolding read_call
-    no_form e = rw (← good, e)
+    no_form why e = let k = no_form_known _ _ e in rw (k.1, ← good, k.0)
 
     module _ (form : is_form (form_in image) ≡ true) where
-      pub no_kind : Unknown ≡ kind_of (head_in image).kind → stays UnknownKind ≡ read_call image ws ss
+      pub no_kind : (why : Refusal) → Err why ≡ kind_of (head_in image).kind → stays why ≡ read_call image ws ss
       unfolding read_call
-      no_kind e = rw (← good, form, ← e)
+      no_kind why e = rw (← good, form, ← e)
 
-      pub no_index : (kind : Kind) → Known kind ≡ kind_of (head_in image).kind
-          → Unfit ≡ content_measured image (head_in image).count (head_in image).levels (head_in image).sizes → stays UnfitContent ≡ read_call image ws ss
+      pub no_index : (kind : Kind) → Ok kind ≡ kind_of (head_in image).kind
+          → None ≡ content_measured image (head_in image).count (head_in image).levels (head_in image).sizes → stays UnfitContent ≡ read_call image ws ss
       unfolding read_call
       no_index kind known e = rw (← good, form, ← known, unheld_known image _ _ _ e)
 
@@ -196,17 +244,13 @@ module _ (image ws ss : List ℕ) where
     roomy word_room sample_room w s = rw (← passed.good, passed.form, ← passed.known, holds_is image _ _ _ passed.holds, w, s)
 
     module _ (used : Used) (u : used ≡ used_by (head_in image)) where
-      pub words_short : length ws < used.words → stays ShortOutput ≡ read_call image ws ss
-      words_short l = roomy false _ (lt-leb _ _ (rw u at l)) refl
+      rooms : has_room used (length ws) (length ss) ≡ leb (used_words (head_in image)) (length ws) && leb (used_samples (head_in image)) (length ss)
+      rooms = rw u refl
 
-      module _ (room : used.words ≤ length ws) where
-        long : leb (used_words (head_in image)) (length ws) ≡ true
-        long = le-leb _ _ (rw u at room)
+      pub no_room : has_room used (length ws) (length ss) ≡ false → stays ShortOutput ≡ read_call image ws ss
+      no_room e = ap (λ (b : Bool). check b ShortOutput stays (answered 0 (read_after (head_in image) (filled (words_in image) (length ws)) (filled (samples_in image) (length ss))))) (sym e ∙ rooms) ∙ roomy _ _ refl refl
 
-        pub samples_short : length ss < used.samples → stays ShortOutput ≡ read_call image ws ss
-        samples_short l = roomy true false long (lt-leb _ _ (rw u at l))
-
-        pub read_done : used.samples ≤ length ss → (head : Head) (start : ℕ) (us vs : List ℕ) → head ≡ head_in image → start ≡ words_place (form_in image)
-            → us ≡ filled (content_from image start used.words) (length ws) → vs ≡ filled (content_from image (start + used.words) used.samples) (length ss)
-            → read_of M.Done head us vs ≡ read_call image ws ss
-        read_done l head start us vs h s p q = rw (h, p, q, s, u) (roomy true true long (le-leb _ _ (rw u at l)))
+      pub read_done : has_room used (length ws) (length ss) ≡ true → (head : Head) (start : ℕ) (us vs : List ℕ) → head ≡ head_in image → start ≡ words_place (form_in image)
+          → us ≡ filled (content_from image start used.words) (length ws) → vs ≡ filled (content_from image (start + used.words) used.samples) (length ss)
+          → read_of (Ok head) us vs ≡ read_call image ws ss
+      read_done e head start us vs h s p q = let r = both _ _ (sym rooms ∙ e) in rw (h, p, q, s, u) (roomy true true r.0 r.1)

@@ -1,10 +1,9 @@
 -- An image of an index: its content, laid out in blocks of bytes; how it is written, and how it is read.
-use Rattle.std.specs.Prelude.{ℕ, ◌+◌, ◌-◌, ◌*◌, ◌/◌, ◌%◌, Bool, cond, ◌&&◌, ◌||◌, List, ◌∷◌, ◌++◌, eqb, leb, length, get_or, take}
+use Rattle.std.specs.Prelude.{ℕ, ◌+◌, ◌-◌, ◌*◌, ◌/◌, ◌%◌, Bool, cond, ◌&&◌, ◌||◌, List, ◌∷◌, ◌++◌, eqb, leb, length, get_or, take, Result, Ok, Err}
 use Rattle.laws.specs.Counting.{each, is_clear}
 use Rattle.laws.specs.Stores.{zeros, filled, fronted}
-use Rattle.refusal.specs.Answers.{Outcome, made, answered, refused, check}
-use Rattle.refusal.specs.declared.Made.{Made}
-use Rattle.refusal.specs.declared.Made.TheVariants.{Done, Refused}
+use Rattle.refusal.specs.Answers.{Outcome, answered, refused, check}
+use Rattle.refusal.specs.declared.Refusal.{Refusal}
 use Rattle.refusal.specs.declared.Refusal.TheVariants.{UnfitHead, ShortOutput, UnfitLength, BadBlock, UnfitContent}
 use Rattle.mixer.specs.Kinds.{kind_of}
 use Rattle.head.specs.KindCheck.{check_kind}
@@ -117,11 +116,11 @@ module _ (image : List ℕ) where
       && is_clear (content_at image) (content_end form_in (used_of levels sizes)) (block_content * block_count)
 
 -- the checks of the length and of the blocks
-unfoldable pub block_checks : List ℕ → Made
+unfoldable pub block_checks : List ℕ → Result Unit Refusal
 block_checks image =
-    check (length_fits image) UnfitLength Refused
-    (check (eqb (bad_block image) (block_count image)) (BadBlock (bad_block image)) Refused
-    Done)
+    check (length_fits image) UnfitLength Err
+    (check (eqb (bad_block image) (block_count image)) (BadBlock (bad_block image)) Err
+    (Ok tt))
 
 -- what a reader leaves: the head that it answers, and the stores
 pub record ReadAfter : Type 0 where
@@ -132,14 +131,15 @@ pub record ReadAfter : Type 0 where
 abbrev pub read_after : Head → List ℕ → List ℕ → ReadAfter
 read_after head ws ss = record { head = head; words = ws; samples = ss }
 
--- the outcome of the code's struct beside the stores
-abbrev pub read_of : Made → Head → List ℕ → List ℕ → Outcome ReadAfter
-read_of answer head ws ss = made answer (read_after head ws ss)
+-- the outcome of a result beside the stores: a refusal has a head of 0
+abbrev pub read_of : Result Head Refusal → List ℕ → List ℕ → Outcome ReadAfter
+read_of (Ok head) ws ss = answered 0 (read_after head ws ss)
+read_of (Err why) ws ss = refused (read_after no_head ws ss) why
 
 -- what comes after the checks of the blocks: the form, the kind, and what the content holds; then room
-abbrev pub after_blocks : Made → List ℕ → List ℕ → List ℕ → Outcome ReadAfter
-after_blocks (Refused why) image ws ss = refused (read_after no_head ws ss) why
-after_blocks Done image ws ss =
+abbrev pub after_blocks : Result Unit Refusal → List ℕ → List ℕ → List ℕ → Outcome ReadAfter
+after_blocks (Err why) image ws ss = refused (read_after no_head ws ss) why
+after_blocks (Ok done) image ws ss =
     let as-they-were = refused (read_after no_head ws ss) in
     let head = head_in image in
     check (is_form (form_in image)) UnfitContent as-they-were

@@ -3,133 +3,124 @@ ghost use Rattle.std.specs.Prelude.{◌≡◌, ◌+◌, ◌*◌, ◌≤◌, leng
 ghost use Rattle.laws.specs.Counting.{is_clear};
 ghost use Rattle.laws.specs.Stores.{filled};
 ghost use Rattle.block.specs.Block.{block_content, block_bytes, content_at};
-ghost use Rattle.image.specs.Image.{is_form, left_out, words_place, min_blocks, block_count, content_from, form_in, head_in, block_checks, read_of, read_call};
-ghost use Rattle.image.specs.Steps.{content_measured, word_or_zero};
+ghost use Rattle.image.specs.Image.{left_out, words_place, min_blocks, block_count, content_from, form_in, head_in, block_checks, read_of, read_call};
+ghost use Rattle.image.specs.Steps.{form_number, form_of, content_measured};
 
-use crate::{FORM, HEAD_PLACE, OLDER_FORM, WORDS_PLACE};
+use crate::{FORM, HEAD_PLACE, OLDER_FORM, WORDS_PLACE, has_room};
 use block::{BLOCK_BYTES, BLOCK_CONTENT, blocks_for, content_at, first_bad};
-use bounds::HEAD_SIZES;
-use head::numbers::NUMBERS;
-use head::{Head, Headed, Measured, measure, numbers, refused, unused_clear};
-use mixer::{KindOf, kind_of};
-use refusal::{Made, Refusal};
+use head::{Head, NUMBERS, Used};
+use mixer::Kind;
+use refusal::Refusal;
 
 // The fewest blocks that an image has.
 const MIN_BLOCKS: usize = 2;
 
-// Reads an image into a word and a sample store, and answers its head.
-pub fn read(image: &[u8], words: &mut [u64], samples: &mut [u64]) -> Headed
-    ensures { read_of result.outcome result.head words.new samples.new
-        ≡ read_call image.now words.old samples.old }
-{
-    let checked = check_blocks(image);
-    if let Made::Refused(why) = checked {
-        return refused(why);
-    }
-    let form = content_at(image, 0);
-    if !is_form(form) {
-        return refused(Refusal::UnfitContent);
-    }
-    let head = head_in(image, form);
-    let KindOf::Known(_) = kind_of(head.kind) else {
-        return refused(Refusal::UnknownKind);
-    };
-    let sizes = head.sizes;
-    let Measured::Uses(used) = check_content(image, form, head.count, head.levels, &sizes) else {
-        return refused(Refusal::UnfitContent);
-    };
-    if used.words > words.len() as u64 {
-        return refused(Refusal::ShortOutput);
-    }
-    if used.samples > samples.len() as u64 {
-        return refused(Refusal::ShortOutput);
-    }
-    let word_end = used.words as usize;
-    let start = words_place(form);
-    copy_content(image, start, word_end, words);
-    copy_content(image, start + word_end, used.samples as usize, samples);
-    Headed {
-        outcome: Made::Done,
-        head,
+// The forms of a content that are read.
+#[derive(Clone, Copy)]
+enum Form {
+    // What is written.
+    Current,
+    // What is older, and has no kind.
+    Older,
+}
+
+// The form that a number stands for. Every other number is refused.
+impl TryFrom<u64> for Form {
+    type Error = Refusal;
+
+    ghost try_from_gives = { λ number form. form ≡ form_of number };
+
+    #[tactic(auto, unfolding(crate::specs::Steps::form_of))]
+    fn try_from(number: u64) -> Result<Form, Refusal> {
+        match number {
+            FORM => Ok(Form::Current),
+            OLDER_FORM => Ok(Form::Older),
+            _ => Err(Refusal::UnfitContent),
+        }
     }
 }
 
+impl Form {
+    // How many of the first numbers of a head it leaves out.
+    fn left_out(self) -> usize
+        ensures { result ≡ left_out (form_number self) }
+    {
+        match self {
+            Form::Current => 0,
+            Form::Older => 1,
+        }
+    }
+
+    // Where the words of the levels begin in a content of this form.
+    fn words_place(self) -> usize
+        ensures { result ≡ words_place (form_number self) }
+    {
+        WORDS_PLACE - self.left_out()
+    }
+}
+
+// Reads an image into a word and a sample store, and answers its head.
+pub fn read(image: &[u8], words: &mut [u64], samples: &mut [u64]) -> Result<Head, Refusal>
+    ensures { read_of result words.new samples.new
+        ≡ read_call image.now words.old samples.old }
+{
+    check_blocks(image)?;
+    let form = Form::try_from(content_at(image, 0))?;
+    let head = head_in(image, form);
+    Kind::try_from(head.kind)?;
+    let used = check_content(image, form, &head).ok_or(Refusal::UnfitContent)?;
+    if !has_room(&used, words.len(), samples.len()) {
+        return Err(Refusal::ShortOutput);
+    }
+    let word_end = used.words as usize;
+    let start = form.words_place();
+    copy_content(image, start, word_end, words);
+    copy_content(image, start + word_end, used.samples as usize, samples);
+    Ok(head)
+}
+
 // The checks of the length and of the blocks.
-fn check_blocks(image: &[u8]) -> Made
+#[tactic(auto, unfolding(crate::specs::Image::block_checks))]
+fn check_blocks(image: &[u8]) -> Result<(), Refusal>
     ensures { result ≡ block_checks image.now }
 {
-    if image.len() < BLOCK_BYTES * MIN_BLOCKS {
-        return Made::Refused(Refusal::UnfitLength);
-    }
-    if image.len() % BLOCK_BYTES != 0 {
-        return Made::Refused(Refusal::UnfitLength);
+    if image.len() < BLOCK_BYTES * MIN_BLOCKS || image.len() % BLOCK_BYTES != 0 {
+        return Err(Refusal::UnfitLength);
     }
     let blocks = image.len() / BLOCK_BYTES;
     let bad = first_bad(image, blocks);
     if bad != blocks {
-        return Made::Refused(Refusal::BadBlock(bad as u64));
+        return Err(Refusal::BadBlock(bad as u64));
     }
-    Made::Done
-}
-
-// Whether a content can begin with this number.
-fn is_form(form: u64) -> bool
-    ensures { result ≡ is_form form }
-{
-    form == FORM || form == OLDER_FORM
-}
-
-// How many of the first numbers of a head a form leaves out.
-fn left_out(form: u64) -> usize
-    ensures { result ≡ left_out form }
-{
-    if form == OLDER_FORM { 1 } else { 0 }
-}
-
-// Where the words of the levels begin in a content of this form.
-fn words_place(form: u64) -> usize
-    ensures { result ≡ words_place form }
-{
-    WORDS_PLACE - left_out(form)
+    Ok(())
 }
 
 // The head, in a content of this form.
-fn head_in(image: &[u8], form: u64) -> Head
-    requires { (block_bytes * min_blocks ≤ length image.now) × (form ≡ form_in image.now) }
+fn head_in(image: &[u8], form: Form) -> Head
+    requires { (block_bytes * min_blocks ≤ length image.now) × (form_number form ≡ form_in image.now) }
     ensures { result ≡ head_in image.now }
 {
     let mut found = [0; NUMBERS];
-    let skipped = left_out(form);
+    let skipped = form.left_out();
     copy_content(image, HEAD_PLACE, NUMBERS - skipped, &mut found[skipped..]);
-    numbers::read(&found)
+    Head::read(&found)
 }
 
-// Whether the blocks hold an index, with these the numbers of the head in them, and what its levels use.
-fn check_content(
-    image: &[u8],
-    form: u64,
-    count: u64,
-    levels: u64,
-    sizes: &[u64; HEAD_SIZES],
-) -> Measured
-    requires { form ≡ form_in image.now }
-    ensures { result ≡ content_measured image.now count levels sizes.now }
+// What the levels of a head use, if the blocks hold an index of that head.
+fn check_content(image: &[u8], form: Form, head: &Head) -> Option<Used>
+    requires { form_number form ≡ form_in image.now }
+    ensures { result ≡ content_measured image.now head.now.count head.now.levels head.now.sizes }
 {
-    let Measured::Uses(used) = measure(count, levels, sizes) else {
-        return Measured::Unfit;
-    };
-    if !unused_clear(levels, sizes) {
-        return Measured::Unfit;
+    let used = head.measure()?;
+    if !head.unused_clear() {
+        return None;
     }
-    let end = words_place(form) as u64 + used.words + used.samples;
+    let end = form.words_place() as u64 + used.words + used.samples;
     let blocks = image.len() / BLOCK_BYTES;
     if blocks as u64 != blocks_for(end) {
-        return Measured::Unfit;
+        return None;
     }
-    if !content_clear(image, end as usize, BLOCK_CONTENT * blocks) {
-        return Measured::Unfit;
-    }
-    Measured::Uses(used)
+    content_clear(image, end as usize, BLOCK_CONTENT * blocks).then_some(used)
 }
 
 // Whether the content is 0 from one place up to another.
@@ -137,12 +128,7 @@ fn content_clear(image: &[u8], from: usize, to: usize) -> bool
     requires { to ≤ block_content * block_count image.now }
     ensures { result ≡ is_clear (content_at image.now) from to }
 {
-    for c in from..to {
-        if content_at(image, c) != 0 {
-            return false;
-        }
-    }
-    true
+    (from..to).all(|c| content_at(image, c) == 0)
 }
 
 // Copies n words of the content to the front of a store, and puts 0 past them.
@@ -150,19 +136,16 @@ fn copy_content(image: &[u8], from: usize, n: usize, out: &mut [u64])
     requires { (n ≤ length out.old) × (from + n ≤ block_content * block_count image.now) }
     ensures { out.new ≡ filled (content_from image.now from n) (length out.old) }
 {
-    for i in 0..out.len() {
-        out[i] = word_or_zero(image, from, n, i);
-    }
+    copy_words(image, from, &mut out[..n]);
+    out[n..].fill(0);
 }
 
-// Word i of the n that are copied; 0 past them.
-fn word_or_zero(image: &[u8], from: usize, n: usize, i: usize) -> u64
-    requires { from + n ≤ block_content * block_count image.now }
-    ensures { result ≡ word_or_zero image.now from n i }
+// Copies the content from one place on to each place of a store.
+fn copy_words(image: &[u8], from: usize, out: &mut [u64])
+    requires { from + length out.old ≤ block_content * block_count image.now }
+    ensures { out.new ≡ content_from image.now from (length out.old) }
 {
-    if i < n {
-        content_at(image, from + i)
-    } else {
-        0
+    for (i, place) in out.iter_mut().enumerate() {
+        *place = content_at(image, from + i);
     }
 }

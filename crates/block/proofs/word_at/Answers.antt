@@ -1,6 +1,7 @@
--- `block::word_at` meets its contract: each byte is below 2 ^ 8, so no sum comes to 2 ^ 64. Assumes nothing.
-use Rattle.block.proofs.Bytewise.{word_is}
+-- `block::word_at` meets its contract: the chunk stands for the word. Assumes nothing.
+use Rattle.std.proofs.Common.{arith, ◌∙◌}
+use Rattle.block.proofs.Bytewise.{chunk_word}
 use Rattle.block.proofs.word_at.Goals as goal
 
 pub returns : goal.returns
-returns c = word_is _ c.args.j
+returns c = c.from_le_bytes.ensures ∙ chunk_word _ _ _ c.as_chunks.ensures.front _ _ (omega arith)

@@ -1,41 +1,55 @@
 -- `image::writing::write` meets its contract. Assumes nothing.
-use mathlib.Core.Path.{sym, ◌∙◌}
+use mathlib.Core.Path.{◌≡◌, sym, ◌∙◌}
 use native.Mathlib.Omega.{arith}
+use Rattle.std.specs.Prelude.{Option, None, Some}
+use Rattle.std.proofs.lemmas.Result.{err_from_is_err_and}
+use Rattle.refusal.specs.declared.Refusal.TheVariants.{UnfitHead}
+use Rattle.head.specs.declared.Used.{Used}
 use Rattle.head.proofs.Fits.{few_used, fit_unbounded}
-use Rattle.image.proofs.WriteCalls.{write_unknown, write_unfit, words_short, samples_short, sizes_left, image_short, image_written}
+use Rattle.image.proofs.WriteCalls.{write_unknown, write_unfit, no_room, sizes_left, image_short, image_written}
 use Rattle.image.proofs.writing.write.Goals as goal
 
-pub returns-in_default : goal.returns-in_default
-returns-in_default c = write_unknown _ _ _ _ c.in_default.ensures
+pub returns-in_err-try_from : goal.returns-in_err-try_from
+returns-in_err-try_from c =
+    let told = err_from_is_err_and c.from_residual.result c.from_residual.ensures.1 in
+    rw (told.1, told.2) (write_unknown _ _ _ _ _ (sym c.in_err-try_from.was ∙ c.try_from.ensures))
 
-pub returns-in_default-measure : goal.returns-in_default-measure
-returns-in_default-measure c = write_unfit _ _ _ _ _ c.in-Known.ensures (fit_unbounded _ _ _ _ _ c.in_default-measure.ensures)
+pub returns-in_err-used : goal.returns-in_err-used
+returns-in_err-used c =
+    let told = err_from_is_err_and c.from_residual-in_err-used.result c.from_residual-in_err-used.ensures.1 in
+    let e : c.measure.result ≡ None = grind arith in
+    let why : c.in_err-used.field-0.0 ≡ UnfitHead = grind arith in
+    rw (told.1, told.2, why) (write_unfit _ _ _ _ _ (sym c.in_ok-try_from.was ∙ c.try_from.ensures) (fit_unbounded _ _ _ _ _ (sym e ∙ c.measure.ensures)))
 
-pub returns-then-used-words : goal.returns-then-used-words
-returns-then-used-words c = words_short _ _ _ _ _ c.in-Known.ensures _ c.in-Uses.ensures c.if-used-words.true
-
-pub returns-then-used-samples : goal.returns-then-used-samples
-returns-then-used-samples c = samples_short _ _ _ _ _ c.in-Known.ensures _ c.in-Uses.ensures c.if-used-words.false c.if-used-samples.true
+pub returns-then-not-has_room : goal.returns-then-not-has_room
+returns-then-not-has_room c =
+    let e : c.measure.result ≡ Some c.in_ok-used.used = grind arith in
+    no_room _ _ _ _ _ (sym c.in_ok-try_from.was ∙ c.try_from.ensures) _ (sym e ∙ c.measure.ensures) (sym c.has_room.ensures ∙ c.if-not-has_room.true)
 
 pub unused_clear-requires : goal.unused_clear-requires
-unused_clear-requires c = (few_used _ _ _ _ c.in-Uses.ensures).few_levels
+unused_clear-requires c = 
+    let e : c.measure.result ≡ Some c.in_ok-used.used = grind arith in
+    (few_used _ _ _ _ (sym e ∙ c.measure.ensures)).few_levels
 
 pub returns-then-not-unused_clear : goal.returns-then-not-unused_clear
 returns-then-not-unused_clear c =
-    sizes_left _ _ _ _ _ c.in-Known.ensures _ c.in-Uses.ensures c.if-used-words.false c.if-used-samples.false (sym c.unused_clear.ensures ∙ c.if-not-unused_clear.true)
-
-pub blocks_for-blocks-requires : goal.blocks_for-blocks-requires
-blocks_for-blocks-requires c = omega (arith, few_used _ _ _ _ c.in-Uses.ensures)
+    let e : c.measure.result ≡ Some c.in_ok-used.used = grind arith in
+    sizes_left _ _ _ _ _ (sym c.in_ok-try_from.was ∙ c.try_from.ensures) _ (sym e ∙ c.measure.ensures) (sym c.has_room.ensures ∙ c.if-not-has_room.false)
+    (sym c.unused_clear.ensures ∙ c.if-not-unused_clear.true)
 
 pub overflow_mul-blocks : goal.overflow_mul-blocks
-overflow_mul-blocks c = omega (arith, c.blocks_for-blocks.ensures, few_used _ _ _ _ c.in-Uses.ensures)
+overflow_mul-blocks c =
+    let e : c.measure.result ≡ Some c.in_ok-used.used = grind arith in
+    omega (arith, c.blocks_for-blocks.ensures, few_used _ _ _ _ (sym e ∙ c.measure.ensures))
 
 pub returns-then-blocks-image : goal.returns-then-blocks-image
 returns-then-blocks-image c =
-    image_short _ _ _ _ _ c.in-Known.ensures _ c.in-Uses.ensures c.if-used-words.false c.if-used-samples.false (sym c.unused_clear.ensures ∙ c.if-not-unused_clear.false)
-    _ c.blocks_for-blocks.ensures c.if-blocks-image.true
+    let e : c.measure.result ≡ Some c.in_ok-used.used = grind arith in
+    image_short _ _ _ _ _ (sym c.in_ok-try_from.was ∙ c.try_from.ensures) _ (sym e ∙ c.measure.ensures) (sym c.has_room.ensures ∙ c.if-not-has_room.false)
+    (sym c.unused_clear.ensures ∙ c.if-not-unused_clear.false) _ c.blocks_for-blocks.ensures c.if-blocks-image.true
 
 pub returns : goal.returns
 returns c =
-    image_written _ _ _ _ _ c.in-Known.ensures _ c.in-Uses.ensures c.if-used-words.false c.if-used-samples.false (sym c.unused_clear.ensures ∙ c.if-not-unused_clear.false)
-    _ c.blocks_for-blocks.ensures c.if-blocks-image.false _ c.write_blocks.ensures
+    let e : c.measure.result ≡ Some c.in_ok-used.used = grind arith in
+    image_written _ _ _ _ _ (sym c.in_ok-try_from.was ∙ c.try_from.ensures) _ (sym e ∙ c.measure.ensures) (sym c.has_room.ensures ∙ c.if-not-has_room.false)
+    (sym c.unused_clear.ensures ∙ c.if-not-unused_clear.false) _ c.blocks_for-blocks.ensures c.if-blocks-image.false _ c.write_blocks.ensures
