@@ -44,14 +44,7 @@ found_below pos count span ws ss x levels r e = go (first pos span (λ i. has (l
 
 -- ---- the row, by the result of `find`
 
-pub told : (f : Result (Option Place) Refusal) (p : Place) → f ≡ Ok (Some p) → row_in (answer_of f) ≡ some p.row
-told f p q = ap (λ (g : Result (Option Place) Refusal). row_in (answer_of g)) q
-
-pub not_told : (f : Result (Option Place) Refusal) → ((p : Place) → f ≡ Ok (Some p) → ⊥) → row_in (answer_of f) ≡ none
-not_told (Ok (Some p)) n = absurd (n p refl)
-not_told (Ok None) n = refl
-not_told (Err r) n = refl
-
 pub told_below : (pos : (level size id : ℕ) → ℕ) (count : ℕ) (span : ℕ → ℕ) (ws ss : List ℕ) (x levels : ℕ) (f : Result (Option Place) Refusal) (p : Place)
     → answer_of f ≡ find_in pos count span ws ss x levels → f ≡ Ok (Some p) → p.row < count
-told_below pos count span ws ss x levels f p e q = found_below pos count span ws ss x levels p.row (ap row_in (sym e) ∙ told f p q)
+told_below pos count span ws ss x levels f p e q =
+    found_below pos count span ws ss x levels p.row (ap row_in (sym e) ∙ ap (λ (g : Result (Option Place) Refusal). row_in (answer_of g)) q)

@@ -178,13 +178,7 @@ module _ (row : ℕ → Option ℕ) (count : ℕ) (below : (x r : ℕ) → row x
         get_or-take count us k 0 m ∙ writes_at ids rows k (omega arith) ∙ only (get_or rows k 0) (sent_to ids k) (lone k m) ∙ sym (listed_at k m)) in
         sym (take-append-drop count us) ∙ ap₂ (λ (xs ys : List ℕ). xs ++ ys) front (writes_past ids rows)
 
--- ---- the same in code: one id, and what is left of the ids
-
-pub write_none : (row : Option ℕ) (x : ℕ) (rows : List ℕ) → row ≡ none → rows ≡ with_id row x rows
-write_none row x rows e = ap (λ (o : Option ℕ). with_id o x rows) (sym e)
-
-pub write_some : (row : Option ℕ) (x : ℕ) (rows : List ℕ) (r : ℕ) → row ≡ some r → set rows r x ≡ with_id row x rows
-write_some row x rows r e = ap (λ (o : Option ℕ). with_id o x rows) (sym e)
+-- ---- the same in code: what is left of the ids
 
 module _ (row : ℕ → Option ℕ) (ids start rows : List ℕ) (i : ℕ) (whole : with_ids row (drop i ids) rows ≡ with_ids row ids start) where
   pub writes_more : (after : List ℕ) → i < length ids → after ≡ with_id (row (get_or ids i 0)) (get_or ids i 0) rows

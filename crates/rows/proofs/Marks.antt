@@ -1,7 +1,7 @@
 -- The check that ids are apart, by marks, over any rule that sends numbers to rows below a count: the ids passed are apart, and the marks are their rows.
 -- Assumes nothing.
 use mathlib.Core.Path.{◌≡◌, refl, sym, ap, ◌∙◌}
-use mathlib.Core.Bool.{Bool, true, false, not, ◌||◌, false≢true}
+use mathlib.Core.Bool.{Bool, true, false, ◌||◌, false≢true}
 use mathlib.Core.List.{List, []}
 use mathlib.Core.Option.{Option, none, some}
 use Prim.Native.Nat.{ℕ, suc, ◌+◌, ◌≤◌, ◌<◌}
@@ -14,22 +14,12 @@ use lib.Dec.{eqb}
 use lib.ListN.{length, get_or, take, drop, take-append-drop}
 use lib.Seq.{take-length}
 use Rattle.laws.specs.Counting.{one, total}
-use Rattle.laws.specs.Bits.{has, words_for, with_bit}
+use Rattle.laws.specs.Bits.{has, words_for}
 use Rattle.laws.proofs.Counts.{total-append, total-take}
 use Rattle.laws.proofs.Words.{with_put, put_drop, with_has}
-use Rattle.words.specs.Steps.{Step}
 use Rattle.rows.specs.Rows.{is_none, is_row, rowless, sent}
 use Rattle.rows.specs.Passes.{is_new, with_row, Marked, Checked, Unmarked}
 use Rattle.rows.proofs.Lists.{apart_known, apart_is, not_apart}
-
--- ---- one id: no row, or a row with its bit
-
-pub mark_none : (row : Option ℕ) (marks : List ℕ) → row ≡ none → Marked row marks false marks
-mark_none row marks e = rw e (record { new = refl; marks_are = refl })
-
-pub mark_some : (row : Option ℕ) (marks : List ℕ) (r : ℕ) (old : Bool) (after : List ℕ) → row ≡ some r → Step marks r (with_bit marks r) old after
-    → Marked row marks (not old) after
-mark_some row marks r old after e s = rw e (record { new = ap not s.old; marks_are = s.words })
 
 -- ---- all ids
 

@@ -11,7 +11,7 @@ use Rattle.laws.specs.Bits.{words_for}
 use Rattle.laws.proofs.Cases.{both}
 use Rattle.mixer.specs.Kinds.{kind_of}
 use Rattle.mixer.specs.declared.Kind.{Kind}
-use Rattle.mixer.specs.declared.KindOf.TheVariants.{Known}
+use Rattle.std.specs.Prelude.{Ok}
 use Rattle.head.specs.Layout.{fit}
 use Rattle.lookup.specs.Lookup.{lookup_call}
 use Rattle.rows.specs.Rows.{apart, listed, rows_by, rows_call}
@@ -41,7 +41,7 @@ module _ (head : Head) (ws ss ids rows marks : List ℕ) where
   abbrev row : ℕ → Option ℕ
   row x = row_in (lookup_call head ws ss x)
 
-  row_below : (kind : Kind) → kind_of head.kind ≡ Known kind → fit count head.levels head.sizes (length ws) (length ss) ≡ true → (x r : ℕ) → row x ≡ some r → r < count
+  row_below : (kind : Kind) → kind_of head.kind ≡ Ok kind → fit count head.levels head.sizes (length ws) (length ss) ≡ true → (x r : ℕ) → row x ≡ some r → r < count
   row_below kind f e x r q = found_below _ count _ ws ss x _ r (ap row_in (lookup-fit head ws ss x kind f e) ∙ q)
 
   pub rows_hold : (rows_call head ws ss ids rows marks).refusal ≡ 0 → (k : ℕ) → k < count → row (get_or (rows_call head ws ss ids rows marks).after.rows k 0) ≡ some k

@@ -1,16 +1,18 @@
--- The steps of a row list, by the numbers of a head that fits: one pass marks the rows of the ids, the other writes each id at its row.
+-- The steps of a row list, by an index: one pass marks the rows of the ids, the other writes each id at its row.
 use Rattle.std.specs.Prelude.{ℕ, ◌<◌, ◌≡◌, Bool, false, not, List, [], ◌∷◌, set, drop}
 use Rattle.std.proofs.Math.Option.{Option, none, some}
 use Rattle.laws.specs.Bits.{has, words_for, with_bit}
-use Rattle.mixer.specs.declared.Kind.{Kind}
 use Rattle.head.specs.Index.{positions}
 use Rattle.head.specs.Layout.{size_at}
 use Rattle.finding.specs.Find.{row_in, find_in}
+use Rattle.finding.specs.declared.Index.{Index}
 use Rattle.rows.specs.Rows.{apart}
 
--- the row of a number, by the kind, the count, the number of levels, their sizes, the words and the samples
-unfoldable pub row_by : Kind → ℕ → ℕ → List ℕ → List ℕ → List ℕ → ℕ → Option ℕ
-row_by kind count levels sizes ws ss x = row_in (find_in (positions kind) count (size_at sizes) ws ss x levels)
+-- the row of a number, by an index: its kind, its head and its stores
+unfoldable pub row_by : Index → ℕ → Option ℕ
+row_by index x =
+    let head = index.head.now in
+    row_in (find_in (positions index.kind) head.count (size_at head.sizes) index.words.now index.samples.now x head.levels)
 
 -- ---- marks
 

@@ -4,5 +4,5 @@ use Rattle.rows.specs.Passes.{row_by}
 use Rattle.rows.proofs.Marks.{Marking}
 use Rattle.rows.proofs.are_apart.Given as goal
 
-abbrev pub invariant-loop-i : goal.invariant-loop-i
-invariant-loop-i l = Marking (row_by l.kind l.count l.levels l.sizes l.words l.samples) l.count l.initial.marks (take l.i l.ids) l.marks
+abbrev pub invariant-loop-id : goal.invariant-loop-id
+invariant-loop-id l = Marking (row_by l.index) l.index.head.now.count l.initial.marks (take l.id-index l.ids) l.marks

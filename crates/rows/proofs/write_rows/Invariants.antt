@@ -4,6 +4,5 @@ use lib.ListN.{drop}
 use Rattle.rows.specs.Passes.{row_by, with_ids}
 use Rattle.rows.proofs.write_rows.Given as goal
 
-abbrev pub invariant-loop-i : goal.invariant-loop-i
-invariant-loop-i l = with_ids (row_by l.kind l.count l.levels l.sizes l.words l.samples) (drop l.i l.ids) l.rows
-    ≡ with_ids (row_by l.kind l.count l.levels l.sizes l.words l.samples) l.ids l.initial.rows
+abbrev pub invariant-loop-id : goal.invariant-loop-id
+invariant-loop-id l = with_ids (row_by l.index) (drop l.id-index l.ids) l.rows ≡ with_ids (row_by l.index) l.ids l.initial.rows
