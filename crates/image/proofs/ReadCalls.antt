@@ -2,12 +2,12 @@
 use mathlib.Core.Path.{◌≡◌, refl, sym, ap, ap₂, ◌∙◌}
 use mathlib.Core.Bool.{Bool, true, false, false≢true, ◌&&◌, ◌||◌, cond}
 use mathlib.Core.List.{List, ◌++◌}
-use Prim.Native.Nat.{ℕ, ◌+◌, ◌-◌, ◌*◌, ◌%◌, ◌≤◌, ◌<◌}
+use Prim.Native.Nat.{ℕ, ◌+◌, ◌-◌, ◌*◌, ◌%◌, ◌≤◌}
 use native.Mathlib.Omega.{arith}
-use borrow.Author.Tests.{eqb-true, eq-eqb, ne_eqb, leb-true, le-leb, lt-leb}
+use borrow.Author.Tests.{eqb-true, eq-eqb, ne_eqb, leb-true, le-leb}
 use lib.Dec.{eqb, leb}
 use lib.ListN.{length, take, drop, length-append, length-drop, length-replicate}
-use Rattle.std.specs.Prelude.{Result, Ok, Err, None, Some}
+use Rattle.std.specs.Prelude.{Ok, Err, None, Some}
 use Rattle.std.specs.Bool.{then_some}
 use Rattle.laws.specs.Counting.{is_clear}
 use Rattle.laws.specs.Stores.{zeros, filled}
@@ -25,7 +25,7 @@ use Rattle.head.specs.Layout.{bounded, used_of, used_by, used_words, used_sample
 use Rattle.head.specs.Numbers.{head_numbers}
 use Rattle.refusal.specs.Answers.{Outcome, answered, refused, check}
 use Rattle.refusal.specs.declared.Refusal.{Refusal}
-use Rattle.refusal.specs.declared.Refusal.TheVariants.{ShortOutput, UnfitLength, BadBlock, UnfitContent}
+use Rattle.refusal.specs.declared.Refusal.TheVariants.{ShortOutput, BadBlock, UnfitContent}
 use Rattle.refusal.proofs.Passed.{ok_passed}
 use Rattle.block.specs.Block.{block_content, block_bytes, blocks_for, first_bad, content_at}
 use Rattle.image.specs.Image.{form, older_form, is_form, head_place, left_out, words_place, content_end, image_blocks, min_blocks, block_count, length_fits, bad_block, content_from, form_in, numbers_in, head_in, words_in, samples_in, holds_index, ReadAfter, read_after, read_of, read_call, block_checks}
@@ -36,28 +36,17 @@ use Rattle.image.specs.declared.reading.Form.TheVariants.{Current, Older}
 -- ---- the checks of the blocks
 
 module _ (image : List ℕ) where
-  pub no_length : length_fits image ≡ false → Err UnfitLength ≡ block_checks image
-  unfolding block_checks
-  no_length e = rw e
+  module _ (long : block_bytes * min_blocks ≤ length image) (whole : length image % block_bytes ≡ 0) (bad : ℕ) (e : bad ≡ first_bad image (block_count image)) where
+    fits : length_fits image ≡ true
+    fits = rw (le-leb (block_bytes * min_blocks) (length image) long, eq-eqb (length image % block_bytes) 0 whole)
 
-  pub too_short : length image < block_bytes * min_blocks → Err UnfitLength ≡ block_checks image
-  too_short h = no_length (rw (lt-leb (block_bytes * min_blocks) (length image) h))
+    pub bad_block_lem : (bad ≡ block_count image → ⊥) → Err (BadBlock bad) ≡ block_checks image
+    unfolding block_checks
+    bad_block_lem n = rw (fits, ← e, ne_eqb bad (block_count image) n)
 
-  module _ (long : block_bytes * min_blocks ≤ length image) where
-    pub not_whole : (length image % block_bytes ≡ 0 → ⊥) → Err UnfitLength ≡ block_checks image
-    not_whole n = no_length (rw (le-leb (block_bytes * min_blocks) (length image) long, ne_eqb (length image % block_bytes) 0 n))
-
-    module _ (whole : length image % block_bytes ≡ 0) (bad : ℕ) (e : bad ≡ first_bad image (block_count image)) where
-      fits : length_fits image ≡ true
-      fits = rw (le-leb (block_bytes * min_blocks) (length image) long, eq-eqb (length image % block_bytes) 0 whole)
-
-      pub bad_block_lem : (bad ≡ block_count image → ⊥) → Err (BadBlock bad) ≡ block_checks image
-      unfolding block_checks
-      bad_block_lem n = rw (fits, ← e, ne_eqb bad (block_count image) n)
-
-      pub good_blocks : bad ≡ block_count image → Ok tt ≡ block_checks image
-      unfolding block_checks
-      good_blocks g = rw (fits, ← e, eq-eqb bad (block_count image) g)
+    pub good_blocks : bad ≡ block_count image → Ok tt ≡ block_checks image
+    unfolding block_checks
+    good_blocks g = rw (fits, ← e, eq-eqb bad (block_count image) g)
 
 -- ---- the numbers of the head
 

@@ -136,16 +136,8 @@ fn copy_content(image: &[u8], from: usize, n: usize, out: &mut [u64])
     requires { (n ≤ length out.old) × (from + n ≤ block_content * block_count image.now) }
     ensures { out.new ≡ filled (content_from image.now from n) (length out.old) }
 {
-    copy_words(image, from, &mut out[..n]);
-    out[n..].fill(0);
-}
-
-// Copies the content from one place on to each place of a store.
-fn copy_words(image: &[u8], from: usize, out: &mut [u64])
-    requires { from + length out.old ≤ block_content * block_count image.now }
-    ensures { out.new ≡ content_from image.now from (length out.old) }
-{
-    for (i, place) in out.iter_mut().enumerate() {
+    for (i, place) in out[..n].iter_mut().enumerate() {
         *place = content_at(image, from + i);
     }
+    out[n..].fill(0);
 }

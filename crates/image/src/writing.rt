@@ -17,12 +17,7 @@ use mixer::Kind;
 use refusal::Refusal;
 
 // Writes the image of an index to the front of a byte store, and counts its blocks.
-pub fn write(
-    head: &Head,
-    words: &[u64],
-    samples: &[u64],
-    image: &mut [u8],
-) -> Result<u64, Refusal>
+pub fn write(head: &Head, words: &[u64], samples: &[u64], image: &mut [u8]) -> Result<u64, Refusal>
     ensures { counted result image.new ≡ write_call head.now words.now samples.now image.old }
 {
     Kind::try_from(head.kind)?;

@@ -1,5 +1,5 @@
 -- `image::reading::content_clear` meets its contract. Assumes nothing.
-use Rattle.std.proofs.Common.{rules, tests, refl, sym, ap, arith, ◌≡◌, ◌∙◌, ℕ, ◌+◌, ◌-◌, ◌<◌, Bool, true, false, length, get_or}
+use Rattle.std.proofs.Common.{rules, tests, refl, sym, ap, arith, ◌≡◌, ◌∙◌, ℕ, ◌+◌, ◌-◌, ◌<◌, Bool, true, false, length}
 use Rattle.std.specs.Bool.{MatchBool}
 use Rattle.std.specs.List.{AllWithin, HoldsAt, range_with_len}
 use Rattle.std.proofs.lemmas.Iterator.{cases_from_all, YieldsList-from_range}

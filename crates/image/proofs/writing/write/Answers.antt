@@ -1,10 +1,9 @@
 -- `image::writing::write` meets its contract. Assumes nothing.
 use mathlib.Core.Path.{◌≡◌, sym, ◌∙◌}
 use native.Mathlib.Omega.{arith}
-use Rattle.std.specs.Prelude.{Option, None, Some}
+use Rattle.std.specs.Prelude.{None, Some}
 use Rattle.std.proofs.lemmas.Result.{err_from_is_err_and}
 use Rattle.refusal.specs.declared.Refusal.TheVariants.{UnfitHead}
-use Rattle.head.specs.declared.Used.{Used}
 use Rattle.head.proofs.Fits.{few_used, fit_unbounded}
 use Rattle.image.proofs.WriteCalls.{write_unknown, write_unfit, no_room, sizes_left, image_short, image_written}
 use Rattle.image.proofs.writing.write.Goals as goal
@@ -27,7 +26,7 @@ returns-then-not-has_room c =
     no_room _ _ _ _ _ (sym c.in_ok-try_from.was ∙ c.try_from.ensures) _ (sym e ∙ c.measure.ensures) (sym c.has_room.ensures ∙ c.if-not-has_room.true)
 
 pub unused_clear-requires : goal.unused_clear-requires
-unused_clear-requires c = 
+unused_clear-requires c =
     let e : c.measure.result ≡ Some c.in_ok-used.used = grind arith in
     (few_used _ _ _ _ (sym e ∙ c.measure.ensures)).few_levels
 
