@@ -1,11 +1,15 @@
 // Builds on both sides of each refusal, in stores that hold 7 everywhere: what each answers, and what it leaves in every store.
 #![tactic(auto)]
 
-use head::Headed;
-use refusal::{Made, Refusal};
-use std::io;
-use trial::print::{contents, text};
+use head::Head;
+use refusal::Refusal;
+use std::{fmt, io};
+use trial::print::{Contents, Numbers};
 use trial::stores::{first, first_mut};
+
+mod small;
+
+pub use small::Small;
 
 // What is built: the first so many of these ids.
 const IDS: [u64; 2] = [9, 9];
@@ -15,124 +19,112 @@ const WORDS: usize = 400;
 
 const SAMPLES: usize = 100;
 
-// The build of two ids at most in these words and samples, for the lines that go on with it.
-pub fn small(gamma: f64, ids: &[u64], words: &mut [u64], samples: &mut [u64]) -> Headed {
-    build::build(0, gamma, ids, words, samples, &mut [7; 4], &mut [7; 2])
+// A build by a kind of hash, of so many ids, in stores of so many places.
+#[derive(Clone, Copy)]
+pub struct Build {
+    pub kind: u64,
+    pub gamma: f64,
+    pub ids: usize,
+    pub words: usize,
+    pub samples: usize,
+    pub collide: usize,
+    pub rest: usize,
 }
 
-pub fn accepted(rt: &impl Print) -> io::Result<()> {
-    build(rt, b"no ids", 0, 2.0, 0, 4, 1, 4, 0)?;
-    build(rt, b"one id", 0, 2.0, 1, 4, 1, 4, 1)?;
-    build(rt, b"one id, in longer stores", 0, 2.0, 1, 8, 4, 8, 4)
-}
-
-pub fn refused(rt: &impl Print) -> io::Result<()> {
-    build(rt, b"gamma 1.01", 0, 1.01, 1, 4, 1, 4, 1)?;
-    build(rt, b"gamma above 16", 0, 16.000000000000004, 1, 4, 1, 4, 1)?;
-    build(rt, b"a rest store of no place", 0, 2.0, 1, 4, 1, 4, 0)?;
-    build(rt, b"a collide store of 3 words", 0, 2.0, 1, 4, 1, 3, 1)?;
-    build(rt, b"3 words", 0, 2.0, 1, 3, 1, 4, 1)?;
-    build(rt, b"no sample", 0, 2.0, 1, 4, 0, 4, 1)?;
-    build(
-        rt,
-        b"an id twice, 400 words, 100 samples",
-        0,
-        2.0,
-        2,
-        400,
-        100,
-        4,
-        2,
-    )?;
-    build(rt, b"an id twice, 399 words", 0, 2.0, 2, 399, 100, 4, 2)?;
-    build(rt, b"an id twice, 99 samples", 0, 2.0, 2, 400, 99, 4, 2)
-}
-
-// A line: a build of so many ids by a kind of hash, in stores of so many places.
-pub fn build(
-    rt: &impl Print,
-    name: &[u8],
-    kind: u64,
-    gamma: f64,
-    ids: usize,
-    words: usize,
-    samples: usize,
-    collide: usize,
-    rest: usize,
-) -> io::Result<()> {
-    text(rt, b"build, ")?;
-    text(rt, name)?;
-    build_in(
-        rt,
-        kind,
-        gamma,
-        first(&IDS, ids),
-        first_mut(&mut [7; WORDS], words),
-        first_mut(&mut [7; SAMPLES], samples),
-        first_mut(&mut [7; 8], collide),
-        first_mut(&mut [7; 8], rest),
-    )
-}
-
-fn build_in(
-    rt: &impl Print,
-    kind: u64,
-    gamma: f64,
-    ids: &[u64],
-    words: &mut [u64],
-    samples: &mut [u64],
-    collide: &mut [u64],
-    rest: &mut [u64],
-) -> io::Result<()> {
-    answer(
-        rt,
-        build::build(kind, gamma, ids, words, samples, collide, rest),
-    )?;
-    left(rt, words, samples, collide, rest)
-}
-
-fn answer(rt: &impl Print, built: Headed) -> io::Result<()> {
-    let made = built.outcome;
-    outcome(rt, made)?;
-    let head = built.head;
-    contents(
-        rt,
-        b"head",
-        &[
+impl Build {
+    // A line: its answer, and what the stores hold after it.
+    pub fn show(&self, rt: &impl Print, name: impl fmt::Display + Drop) -> io::Result<()> {
+        let mut word_store = [7; WORDS];
+        let mut sample_store = [7; SAMPLES];
+        let mut collide_store = [7; 8];
+        let mut rest_store = [7; 8];
+        let words = first_mut(&mut word_store, self.words);
+        let samples = first_mut(&mut sample_store, self.samples);
+        let collide = first_mut(&mut collide_store, self.collide);
+        let rest = first_mut(&mut rest_store, self.rest);
+        let ids = first(&IDS, self.ids);
+        let built = build::build(self.kind, self.gamma, ids, words, samples, collide, rest);
+        let head = built.unwrap_or(Head::none());
+        let numbers = [
             head.kind,
             head.count,
             head.levels,
             head.sizes[0],
             head.sizes[1],
-        ],
-    )
-}
-
-// A part of a line: the outcome, with the value that it carries.
-pub fn outcome(rt: &impl Print, outcome: Made) -> io::Result<()> {
-    match outcome {
-        Made::Done => text(rt, b": done"),
-        Made::Refused(reason) => refusal(rt, reason),
+        ];
+        print!(rt;
+            "build, {name}: {}, head{}",
+            Outcome(built),
+            Numbers(&numbers)
+        )?;
+        print!(rt; ", words{}, samples{}", Contents(words), Contents(samples))?;
+        println!(rt; ", collide{}, rest{}", Contents(collide), Contents(rest))
     }
 }
 
-fn refusal(rt: &impl Print, reason: Refusal) -> io::Result<()> {
-    let number = refusal::number(reason);
-    let value = refusal::value(reason);
-    print!(rt; ": refused {number} giving {value}")
+// One id, in stores of just what it needs: what the other lines change.
+pub const ONE: Build = Build {
+    kind: 0,
+    gamma: 2.0,
+    ids: 1,
+    words: 4,
+    samples: 1,
+    collide: 4,
+    rest: 1,
+};
+
+// An id that stands twice, in stores for all levels.
+const TWO: Build = Build {
+    ids: 2,
+    words: WORDS,
+    samples: SAMPLES,
+    rest: 2,
+    ..ONE
+};
+
+pub fn accepted(rt: &impl Print) -> io::Result<()> {
+    Build {
+        ids: 0,
+        rest: 0,
+        ..ONE
+    }
+    .show(rt, "no ids")?;
+    ONE.show(rt, "one id")?;
+    Build {
+        words: 8,
+        samples: 4,
+        collide: 8,
+        rest: 4,
+        ..ONE
+    }
+    .show(rt, "one id, in longer stores")
 }
 
-// What the stores hold after a build.
-fn left(
-    rt: &impl Print,
-    words: &[u64],
-    samples: &[u64],
-    collide: &[u64],
-    rest: &[u64],
-) -> io::Result<()> {
-    contents(rt, b"words", words)?;
-    contents(rt, b"samples", samples)?;
-    contents(rt, b"collide", collide)?;
-    contents(rt, b"rest", rest)?;
-    text(rt, b"\n")
+pub fn refused(rt: &impl Print) -> io::Result<()> {
+    Build { gamma: 1.01, ..ONE }.show(rt, "gamma 1.01")?;
+    Build {
+        gamma: 16.000000000000004,
+        ..ONE
+    }
+    .show(rt, "gamma above 16")?;
+    Build { rest: 0, ..ONE }.show(rt, "a rest store of no place")?;
+    Build { collide: 3, ..ONE }.show(rt, "a collide store of 3 words")?;
+    Build { words: 3, ..ONE }.show(rt, "3 words")?;
+    Build { samples: 0, ..ONE }.show(rt, "no sample")?;
+    TWO.show(rt, "an id twice, 400 words, 100 samples")?;
+    Build { words: 399, ..TWO }.show(rt, "an id twice, 399 words")?;
+    Build { samples: 99, ..TWO }.show(rt, "an id twice, 99 samples")
+}
+
+// What a call that makes a head answers, with the value that its refusal carries.
+#[derive(Clone, Copy)]
+pub struct Outcome(pub Result<Head, Refusal>);
+
+impl fmt::Display for Outcome {
+    fn fmt<W: fmt::Write>(&self, f: &mut fmt::Formatter<W>) -> fmt::Result {
+        match self.0 {
+            Ok(_) => f.write_str("done"),
+            Err(refusal) => write!(f, "{refusal} giving {}", refusal.value()),
+        }
+    }
 }

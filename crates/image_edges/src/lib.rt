@@ -1,9 +1,11 @@
 // Images of the indexes of no, one and three ids, written and read back; and what the other lines about images share.
 #![tactic(auto)]
 
+mod change;
 mod indexes;
 mod lines;
 pub mod places;
 
-pub use indexes::{write_index, written};
-pub use lines::{read, read_changed, show};
+pub use change::Change;
+pub use indexes::{IMAGE, image_of_9, written};
+pub use lines::{read, show};

@@ -1,11 +1,10 @@
 // The words of an image by their places, of which nothing is asked: past the end a word is 0, and nothing is written there.
-use block::{check_step, put_word, word_at};
+use block::{BLOCK_BYTES, CHECK_PLACE, check_step, put_word};
+use std::fmt;
 
 pub fn word(image: &[u8], place: usize) -> u64 {
-    if place < image.len() / 8 {
-        return word_at(image, place);
-    }
-    0
+    let (words, _) = image.as_chunks();
+    words.get(place).map_or(0, |word| u64::from_le_bytes(*word))
 }
 
 pub fn put(image: &mut [u8], place: usize, word: u64) {
@@ -14,31 +13,33 @@ pub fn put(image: &mut [u8], place: usize, word: u64) {
     }
 }
 
-// The first n bytes, or all, where there are fewer.
-pub fn first_bytes(image: &[u8], n: usize) -> &[u8] {
-    if n < image.len() {
-        return &image[..n];
-    }
-    image
-}
-
 // Puts the checks of the first three blocks.
 pub fn mend(image: &mut [u8]) {
-    mend_block(image, 0, 63);
-    mend_block(image, 64, 127);
-    mend_block(image, 128, 191);
-}
-
-// Puts the check of the words from one place up to another into the latter.
-fn mend_block(image: &mut [u8], from: usize, to: usize) {
-    let check = check(image, from, to);
-    put(image, to, check);
-}
-
-fn check(image: &[u8], from: usize, to: usize) -> u64 {
-    let mut check = 0;
-    for w in from..to {
-        check = check_step(check, word(image, w));
+    for block in image.chunks_exact_mut(BLOCK_BYTES).take(3) {
+        mend_block(block);
     }
-    check
+}
+
+fn mend_block(block: &mut [u8]) {
+    let (words, _) = block.as_chunks();
+    let checked = words.iter().take(CHECK_PLACE);
+    let check = checked.fold(
+        0,
+        |check, word| check_step(check, u64::from_le_bytes(*word)),
+    );
+    put(block, CHECK_PLACE, check);
+}
+
+// The words of an image, each behind a space.
+#[derive(Clone, Copy)]
+pub struct Words<'a>(pub &'a [u8]);
+
+impl fmt::Display for Words<'_> {
+    fn fmt<W: fmt::Write>(&self, f: &mut fmt::Formatter<W>) -> fmt::Result {
+        let (words, _) = self.0.as_chunks();
+        for word in words {
+            write!(f, " {}", u64::from_le_bytes(*word))?;
+        }
+        Ok(())
+    }
 }

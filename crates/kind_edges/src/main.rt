@@ -2,7 +2,6 @@
 #![tactic(auto)]
 
 mod calls;
-mod lists;
 mod reads;
 
 use std::io;
@@ -10,7 +9,7 @@ use std::io;
 fn main(rt: HostRuntime) -> io::Result<()> {
     calls::builds(&rt)?;
     calls::lookups(&rt)?;
-    lists::lists(&rt)?;
+    calls::lists(&rt)?;
     calls::writes(&rt)?;
     reads::kinds(&rt)?;
     reads::beside(&rt)?;

@@ -1,9 +1,8 @@
 // Rows on both sides of a sample.
 use bounds::HEAD_SIZES;
-use finding::Found;
 use head::Head;
 use std::io;
-use trial::print::{numbers, text};
+use trial::print::Numbers;
 
 // Ids by their positions in a level 0 of 640 bits.
 const AT_511: u64 = 475;
@@ -14,15 +13,14 @@ const AT_513: u64 = 2736;
 
 // A level of 640 bits, of which the first 576 are set.
 pub fn sampled(rt: &impl Print) -> io::Result<()> {
-    let mut words: [u64; 10] = [u64::MAX; 10];
+    let mut words = [u64::MAX; 10];
     words[9] = 0;
-    let mut samples: [u64; 2] = [7; 2];
+    let mut samples = [7; 2];
     ranks::sample_level(&words, 0, &mut samples);
-    numbers(rt, b"640 bits, words 0 to 8 all ones, samples", &samples)?;
-    rows(rt, &words, &samples)
-}
-
-fn rows(rt: &impl Print, words: &[u64], samples: &[u64]) -> io::Result<()> {
+    println!(rt;
+        "640 bits, words 0 to 8 all ones, samples:{}",
+        Numbers(&samples)
+    )?;
     let mut sizes = [0; HEAD_SIZES];
     sizes[0] = 640;
     let head = Head {
@@ -31,16 +29,16 @@ fn rows(rt: &impl Print, words: &[u64], samples: &[u64]) -> io::Result<()> {
         levels: 1,
         sizes,
     };
-    row(rt, lookup::lookup(head, words, samples, AT_511))?;
-    row(rt, lookup::lookup(head, words, samples, AT_512))?;
-    row(rt, lookup::lookup(head, words, samples, AT_513))
+    for id in [AT_511, AT_512, AT_513] {
+        row(rt, &head, &words, &samples, id)?;
+    }
+    Ok(())
 }
 
 // A line: the position that a lookup answers, and the row.
-fn row(rt: &impl Print, found: Found) -> io::Result<()> {
-    if let Found::Row(place) = found {
-        println!(rt; "its row at position {}: {}", place.position, place.row)
-    } else {
-        text(rt, b"no row\n")
+fn row(rt: &impl Print, head: &Head, words: &[u64], samples: &[u64], id: u64) -> io::Result<()> {
+    match lookup::lookup(head, words, samples, id) {
+        Ok(Some(place)) => println!(rt; "its row at position {}: {}", place.position, place.row),
+        _ => println!(rt; "no row"),
     }
 }

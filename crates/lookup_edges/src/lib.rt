@@ -1,8 +1,8 @@
-// Lookups in the indexes that `build` made of no, one and two ids.
+// Lookups in the indexes that `build` made of no, one and two ids, and what the other lines of lookups and row lists share.
 #![tactic(auto)]
 
-mod indexes;
 mod looking;
+mod stored;
 
-pub use indexes::lookups;
-pub use looking::lookup;
+pub use looking::lookups;
+pub use stored::Stored;

@@ -2,132 +2,125 @@
 // and 65 to 105 the sizes, 106 to 109 the words, 110 the sample, and 111 to 126 the fill.
 #![tactic(auto)]
 
-use image_edges::places::{first_bytes, mend, put};
-use image_edges::{read_changed, show};
+use head::Head;
+use image_edges::places::{mend, put};
+use image_edges::{Change, IMAGE, show};
 use std::io;
-use trial::print::{counted, number, text};
+use trial::print::answer;
+use trial::stores::first;
+
+// The three first words of the index of 9.
+const WORDS_OF_9: [u64; 3] = [0, 0, 4];
 
 // Of no ids, of 9, and of 9, 10 and 11, whose positions are 130, 115 and 13.
 pub fn indexes(rt: &impl Print) -> io::Result<()> {
-    index(rt, 0, 0, 0, 0, &mut [0; 1536])?;
-    index(rt, 1, 0, 0, 4, &mut [0; 1536])?;
-    index(rt, 3, 8192, 2_251_799_813_685_248, 4, &mut [0; 1536])
+    index(rt, 0, [0, 0, 0])?;
+    index(rt, 1, WORDS_OF_9)?;
+    index(rt, 3, [8192, 2_251_799_813_685_248, 4])
 }
 
 // The lines of an index: the older image, and the one that is written of what was read.
-fn index(
-    rt: &impl Print,
-    count: u64,
-    word_0: u64,
-    word_1: u64,
-    word_2: u64,
-    image: &mut [u8],
-) -> io::Result<()> {
-    put_older(count, word_0, word_1, word_2, image);
-    text(rt, b"older image of ")?;
-    number(rt, count)?;
-    text(rt, b" ids\n")?;
-    show(rt, first_bytes(image, 1024))?;
-    write_again(rt, image, &mut [7; 6], &mut [7; 3])
+fn index(rt: &impl Print, count: u64, first_words: [u64; 3]) -> io::Result<()> {
+    let mut image = older(count, first_words);
+    println!(rt; "older image of {count} ids")?;
+    show(rt, first(&image, 1024))?;
+    let mut words = [7; 6];
+    let mut samples = [7; 3];
+    let found = image::read(first(&image, 1024), &mut words, &mut samples);
+    let head = found.unwrap_or(Head::none());
+    let blocks = image::write(&head, &words, &samples, &mut image);
+    answer(rt, "written again, blocks", blocks)?;
+    show(rt, first(&image, 1024))
 }
 
-fn write_again(
-    rt: &impl Print,
-    image: &mut [u8],
-    words: &mut [u64],
-    samples: &mut [u64],
-) -> io::Result<()> {
-    let found = image::read(first_bytes(image, 1024), words, samples);
-    let answer = image::write(found.head, words, samples, image);
-    counted(rt, b"written again, blocks", answer)?;
-    show(rt, first_bytes(image, 1024))
+// The older image of an index of so many ids with these three first words in one level of 255 bits, and a block 2 of zeros behind it.
+fn older(count: u64, first_words: [u64; 3]) -> [u8; IMAGE] {
+    let mut image = [0; IMAGE];
+    let [word_0, word_1, word_2] = first_words;
+    for (place, word) in [
+        (1, 1),
+        (2, count),
+        (3, 1),
+        (4, 255),
+        (64, 1),
+        (106, word_0),
+        (107, word_1),
+        (108, word_2),
+        (128, 2),
+    ] {
+        put(&mut image, place, word);
+    }
+    mend(&mut image);
+    image
 }
 
-// Puts the older image of an index with these three first words to a store of zeros, and a block 2 of zeros behind it.
-fn put_older(count: u64, word_0: u64, word_1: u64, word_2: u64, image: &mut [u8]) {
-    put_head(count, image);
-    put(image, 64, 1);
-    put(image, 106, word_0);
-    put(image, 107, word_1);
-    put(image, 108, word_2);
-    put(image, 128, 2);
-    mend(image);
-}
-
-// Puts the form and the head of so many ids in one level of 255 bits.
-fn put_head(count: u64, image: &mut [u8]) {
-    put(image, 1, 1);
-    put(image, 2, count);
-    put(image, 3, 1);
-    put(image, 4, 255);
-}
+// The id count, which stands where the form that is written has its kind; the level count, sizes, a word, the sample and the fill.
+const CHANGES: [(usize, u64); 11] = [
+    (2, 1),
+    (2, 2),
+    (2, 1_048_577),
+    (3, 0),
+    (4, 254),
+    (5, 1),
+    (105, 1),
+    (106, 1),
+    (110, 1),
+    (111, 1),
+    (126, 1),
+];
 
 pub fn changes(rt: &impl Print) -> io::Result<()> {
-    // The id count stands where the form that is written has its kind.
-    mended(rt, 2, 1)?;
-    mended(rt, 2, 2)?;
-    mended(rt, 2, 1_048_577)?;
-    mended(rt, 3, 0)?;
-    mended(rt, 4, 254)?;
-    mended(rt, 5, 1)?;
-    mended(rt, 105, 1)?;
-    mended(rt, 106, 1)?;
-    mended(rt, 110, 1)?;
-    mended(rt, 111, 1)?;
-    mended(rt, 126, 1)?;
+    for (place, word) in CHANGES {
+        changed(rt, Change::new(place, word))?;
+    }
     block_counts(rt)?;
-    changed(rt, 1024, 2, 1, true, 3, 1)?;
-    changed(rt, 1024, 2, 1, true, 4, 0)?;
-    changed(rt, 1024, 2, 2, false, 4, 1)?;
+    changed(
+        rt,
+        Change {
+            words: 3,
+            ..Change::new(2, 1)
+        },
+    )?;
+    changed(
+        rt,
+        Change {
+            samples: 0,
+            ..Change::new(2, 1)
+        },
+    )?;
+    changed(
+        rt,
+        Change {
+            mended: false,
+            ..Change::new(2, 2)
+        },
+    )?;
     // As the form that is written, with the id count for a kind.
-    mended(rt, 1, 2)
+    changed(rt, Change::new(1, 2))
 }
 
 // In two and three blocks: 1,152 bits fill two, and one bit more takes a third.
 fn block_counts(rt: &impl Print) -> io::Result<()> {
-    changed(rt, 1024, 4, 1152, true, 18, 3)?;
-    changed(rt, 1024, 4, 1153, true, 19, 3)?;
-    changed(rt, 1536, 4, 1152, true, 18, 3)?;
-    changed(rt, 1536, 4, 1153, true, 19, 3)
+    for (bytes, bits, words) in [
+        (1024, 1152, 18),
+        (1024, 1153, 19),
+        (1536, 1152, 18),
+        (1536, 1153, 19),
+    ] {
+        changed(
+            rt,
+            Change {
+                bytes,
+                words,
+                samples: 3,
+                ..Change::new(4, bits)
+            },
+        )?;
+    }
+    Ok(())
 }
 
-fn mended(rt: &impl Print, place: usize, word: u64) -> io::Result<()> {
-    changed(rt, 1024, place, word, true, 4, 1)
-}
-
-// A line: so many bytes of the older image of 9, with a word in some place, and then the checks mended or not; read into stores of so many places.
-fn changed(
-    rt: &impl Print,
-    bytes: usize,
-    place: usize,
-    word: u64,
-    mended: bool,
-    words: usize,
-    samples: usize,
-) -> io::Result<()> {
-    text(rt, b"read older")?;
-    changed_in(
-        rt,
-        bytes,
-        place,
-        word,
-        mended,
-        words,
-        samples,
-        &mut [0; 1536],
-    )
-}
-
-fn changed_in(
-    rt: &impl Print,
-    bytes: usize,
-    place: usize,
-    word: u64,
-    mended: bool,
-    words: usize,
-    samples: usize,
-    image: &mut [u8],
-) -> io::Result<()> {
-    put_older(1, 0, 0, 4, image);
-    read_changed(rt, bytes, place, word, mended, words, samples, image)
+// A line: the older image of 9 is changed and read.
+fn changed(rt: &impl Print, change: Change) -> io::Result<()> {
+    change.read(rt, "read older", older(1, WORDS_OF_9))
 }

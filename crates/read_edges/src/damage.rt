@@ -1,84 +1,65 @@
 // Lengths that are not those of blocks, and blocks whose number, content or check is another.
 use crate::content::changed;
-use image_edges::places::first_bytes;
-use image_edges::{read, write_index};
+use image_edges::{Change, image_of_9, read};
 use std::io;
-use trial::print::{number, text};
+use trial::stores::first;
 
 // The image in front of a block of zeros.
 pub fn lengths(rt: &impl Print) -> io::Result<()> {
-    length(rt, 0)?;
-    length(rt, 512)?;
-    length(rt, 1023)?;
-    length(rt, 1024)?;
-    length(rt, 1025)?;
-    length(rt, 1280)?;
-    length(rt, 1535)?;
-    length(rt, 1536)
-}
-
-fn length(rt: &impl Print, bytes: usize) -> io::Result<()> {
-    turned(rt, bytes, 1536, 1536)
+    for bytes in [0, 512, 1023, 1024, 1025, 1280, 1535, 1536] {
+        turned(rt, bytes, &[])?;
+    }
+    Ok(())
 }
 
 pub fn blocks(rt: &impl Print) -> io::Result<()> {
     numbers(rt)?;
     bits(rt)?;
     // 13 before 14.
-    turned(rt, 1023, 8, 1536)?;
-    turned(rt, 1535, 8, 1536)
+    turned(rt, 1023, &[8])?;
+    turned(rt, 1535, &[8])
 }
 
 // Blocks with another number: with the check of what they had, and with their own check.
 fn numbers(rt: &impl Print) -> io::Result<()> {
-    changed(rt, 1024, 0, 1, false, 4, 1)?;
-    changed(rt, 1024, 0, 1, true, 4, 1)?;
-    changed(rt, 1024, 64, 0, false, 4, 1)?;
-    changed(rt, 1024, 64, 0, true, 4, 1)?;
-    changed(rt, 1024, 64, 2, true, 4, 1)?;
-    changed(rt, 1536, 128, 3, true, 4, 1)
+    for (place, word) in [(0, 1), (64, 0)] {
+        let number = Change::new(place, word);
+        changed(
+            rt,
+            Change {
+                mended: false,
+                ..number
+            },
+        )?;
+        changed(rt, number)?;
+    }
+    changed(rt, Change::new(64, 2))?;
+    changed(
+        rt,
+        Change {
+            bytes: 1536,
+            ..Change::new(128, 3)
+        },
+    )
 }
 
 // One bit turned in a number, in the first and the last content of a block, and in a check; and one in each of two blocks.
 fn bits(rt: &impl Print) -> io::Result<()> {
-    turned(rt, 1024, 0, 1536)?;
-    turned(rt, 1024, 8, 1536)?;
-    turned(rt, 1024, 503, 1536)?;
-    turned(rt, 1024, 504, 1536)?;
-    turned(rt, 1024, 511, 1536)?;
-    turned(rt, 1024, 512, 1536)?;
-    turned(rt, 1024, 520, 1536)?;
-    turned(rt, 1024, 1015, 1536)?;
-    turned(rt, 1024, 1016, 1536)?;
-    turned(rt, 1024, 1023, 1536)?;
-    turned(rt, 1024, 1023, 504)
-}
-
-// A line: so many bytes, of which two have their lowest bit turned; a place past the store is none.
-fn turned(rt: &impl Print, bytes: usize, one: usize, other: usize) -> io::Result<()> {
-    text(rt, b"read, bytes ")?;
-    number(rt, bytes as u64)?;
-    turned_in(rt, bytes, one, other, &mut [0; 1536])
-}
-
-fn turned_in(
-    rt: &impl Print,
-    bytes: usize,
-    one: usize,
-    other: usize,
-    image: &mut [u8],
-) -> io::Result<()> {
-    write_index(&[9], image);
-    turn_at(rt, image, one)?;
-    turn_at(rt, image, other)?;
-    read(rt, first_bytes(image, bytes), 4, 1)
-}
-
-fn turn_at(rt: &impl Print, image: &mut [u8], at: usize) -> io::Result<()> {
-    if at < image.len() {
-        text(rt, b", turned ")?;
-        number(rt, at as u64)?;
-        image[at] = image[at] ^ 1;
+    for place in [0, 8, 503, 504, 511, 512, 520, 1015, 1016, 1023] {
+        turned(rt, 1024, &[place])?;
     }
-    Ok(())
+    turned(rt, 1024, &[1023, 504])
+}
+
+// A line: so many bytes, of which these have their lowest bit turned.
+fn turned(rt: &impl Print, bytes: usize, places: &[usize]) -> io::Result<()> {
+    let mut image = image_of_9();
+    print!(rt; "read, bytes {bytes}")?;
+    for &place in places {
+        print!(rt; ", turned {place}")?;
+        if let Some(byte) = image.get_mut(place) {
+            *byte ^= 1;
+        }
+    }
+    read(rt, first(&image, bytes), 4, 1)
 }

@@ -1,37 +1,25 @@
 // The bits, words and samples of a level.
 
-// What a level takes: nothing, where gamma or the number of ids is out of bounds.
-#[derive(Clone, Copy)]
+// What a level takes.
+#[derive(Clone, Copy, Default)]
 pub struct Takes {
     pub bits: u64,
     pub words: u64,
     pub samples: u64,
 }
 
-pub fn measure(gamma: f64, ids: u64) -> Takes {
-    if sizes::above_max(gamma) {
-        return nothing();
+// What a level takes for so many ids, where gamma and they are in bounds.
+#[tactic(auto, using(sizes::proofs::Sizes::size_most))]
+pub fn measure(gamma: f64, ids: u64) -> Option<Takes> {
+    if sizes::above_max(gamma) || !sizes::above_min(gamma) || ids > bounds::MAX_IDS {
+        return None;
     }
-    if ids > bounds::MAX_IDS {
-        return nothing();
-    }
-    if sizes::above_min(gamma) {
-        let bits = sizes::size(gamma, ids);
-        let words = words::u64s(bits);
-        let samples = sizes::samples(words);
-        return Takes {
-            bits,
-            words,
-            samples,
-        };
-    }
-    nothing()
-}
-
-fn nothing() -> Takes {
-    Takes {
-        bits: 0,
-        words: 0,
-        samples: 0,
-    }
+    let bits = sizes::size(gamma, ids);
+    let words = words::u64s(bits);
+    let samples = sizes::samples(words);
+    Some(Takes {
+        bits,
+        words,
+        samples,
+    })
 }

@@ -1,81 +1,76 @@
-// Lines of text with numbers in them, on standard output.
-use refusal::{Counted, Made, Refusal, Said};
-use std::io;
+// Lines of text on standard output: answers, lists of numbers, and what stores hold.
+use refusal::Refusal;
+use std::{fmt, io};
 
-pub fn text(rt: &impl Print, words: &[u8]) -> io::Result<()> {
-    rt.write_all(words)
+// What a line says where a call is not refused.
+pub trait Tell {
+    fn tell<W: fmt::Write>(&self, f: &mut fmt::Formatter<W>) -> fmt::Result;
 }
 
-pub fn number(rt: &impl Print, n: u64) -> io::Result<()> {
-    print!(rt; "{n}")
-}
-
-// A line: what is listed, and the numbers.
-pub fn numbers(rt: &impl Print, name: &[u8], list: &[u64]) -> io::Result<()> {
-    text(rt, name)?;
-    text(rt, b":")?;
-    spell(rt, list)?;
-    text(rt, b"\n")
-}
-
-fn spell(rt: &impl Print, list: &[u64]) -> io::Result<()> {
-    for n in list {
-        print!(rt; " {n}")?;
+impl Tell for () {
+    fn tell<W: fmt::Write>(&self, f: &mut fmt::Formatter<W>) -> fmt::Result {
+        f.write_str("done")
     }
-    Ok(())
+}
+
+impl Tell for bool {
+    fn tell<W: fmt::Write>(&self, f: &mut fmt::Formatter<W>) -> fmt::Result {
+        f.write_str(if *self { "yes" } else { "no" })
+    }
+}
+
+impl Tell for u64 {
+    fn tell<W: fmt::Write>(&self, f: &mut fmt::Formatter<W>) -> fmt::Result {
+        write!(f, "{self}")
+    }
+}
+
+// An answer as a line ends with it: what is told, or the refusal.
+#[derive(Clone, Copy)]
+struct Told<T>(Result<T, Refusal>);
+
+impl<T: Tell> fmt::Display for Told<T> {
+    fn fmt<W: fmt::Write>(&self, f: &mut fmt::Formatter<W>) -> fmt::Result {
+        match &self.0 {
+            Ok(answer) => answer.tell(f),
+            Err(refusal) => write!(f, "{refusal}"),
+        }
+    }
 }
 
 // A line: what was asked, and the answer.
-pub fn made(rt: &impl Print, name: &[u8], answer: Made) -> io::Result<()> {
-    text(rt, name)?;
-    match answer {
-        Made::Done => text(rt, b": done\n"),
-        Made::Refused(reason) => refused(rt, reason),
+pub fn answer<T: Tell + Copy>(
+    rt: &impl Print,
+    name: impl fmt::Display + Drop,
+    answer: Result<T, Refusal>,
+) -> io::Result<()> {
+    println!(rt; "{name}: {}", Told(answer))
+}
+
+// Numbers, each behind a space.
+#[derive(Clone, Copy)]
+pub struct Numbers<'a>(pub &'a [u64]);
+
+impl fmt::Display for Numbers<'_> {
+    fn fmt<W: fmt::Write>(&self, f: &mut fmt::Formatter<W>) -> fmt::Result {
+        for n in self.0 {
+            write!(f, " {n}")?;
+        }
+        Ok(())
     }
 }
 
-pub fn said(rt: &impl Print, name: &[u8], answer: Said) -> io::Result<()> {
-    text(rt, name)?;
-    match answer {
-        Said::Yes => text(rt, b": yes\n"),
-        Said::No => text(rt, b": no\n"),
-        Said::Refused(reason) => refused(rt, reason),
-    }
-}
+// What a store holds: its numbers, or the one number of a long store.
+#[derive(Clone, Copy)]
+pub struct Contents<'a>(pub &'a [u64]);
 
-pub fn counted(rt: &impl Print, name: &[u8], answer: Counted) -> io::Result<()> {
-    match answer {
-        Counted::Count(n) => count(rt, name, n),
-        Counted::Refused(reason) => {
-            text(rt, name)?;
-            refused(rt, reason)
+impl fmt::Display for Contents<'_> {
+    fn fmt<W: fmt::Write>(&self, f: &mut fmt::Formatter<W>) -> fmt::Result {
+        match self.0 {
+            [n, rest @ ..] if rest.len() >= 8 && rest.iter().all(|other| other == n) => {
+                write!(f, " all {n}")
+            }
+            store => write!(f, "{}", Numbers(store)),
         }
     }
-}
-
-pub fn count(rt: &impl Print, name: &[u8], n: u64) -> io::Result<()> {
-    text(rt, name)?;
-    println!(rt; ": {n}")
-}
-
-fn refused(rt: &impl Print, reason: Refusal) -> io::Result<()> {
-    let n = refusal::number(reason);
-    println!(rt; ": refused {n}")
-}
-
-// A part of a line: what a store is called, and what it holds: its numbers, or the one number of a long store.
-pub fn contents(rt: &impl Print, name: &[u8], store: &[u64]) -> io::Result<()> {
-    text(rt, b", ")?;
-    text(rt, name)?;
-    if store.len() > 8 {
-        let n = store[0];
-        if all_are(store, n) {
-            return print!(rt; " all {n}");
-        }
-    }
-    spell(rt, store)
-}
-
-fn all_are(store: &[u64], n: u64) -> bool {
-    store.iter().all(|x| *x == n)
 }

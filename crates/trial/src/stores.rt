@@ -1,17 +1,12 @@
 // Parts of the stores that the calls are given.
 
 // The first n places, or all, where there are fewer.
-pub fn first(store: &[u64], n: usize) -> &[u64] {
-    if n < store.len() {
-        return &store[..n];
-    }
-    store
+pub fn first<T>(store: &[T], n: usize) -> &[T] {
+    store.get(..n).unwrap_or(store)
 }
 
 // The same, to be written.
-pub fn first_mut(store: &mut [u64], n: usize) -> &mut [u64] {
-    if n < store.len() {
-        return &mut store[..n];
-    }
-    store
+pub fn first_mut<T>(store: &mut [T], n: usize) -> &mut [T] {
+    let places = n.min(store.len());
+    &mut store[..places]
 }
