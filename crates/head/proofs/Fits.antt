@@ -8,15 +8,14 @@ use native.Mathlib.Nat.{eq-or-lt_of_le, le_of_suc-le-suc, le_trans, mul-le-mul_l
 use native.Mathlib.Numerals.{add-one}
 use native.Mathlib.Omega.{arith}
 use Rattle.std.specs.Prelude.{None, Some}
-use borrow.Author.Tests.{eqb-true, eq-eqb, leb-true, le-leb, lt-leb}
-use lib.Dec.{leb}
+use borrow.Author.Tests.{eqb-true, eq-eqb, leb-true, le-leb}
 use Rattle.bounds.specs.Bounds.{max_ids, max_bits, min_bits, max_levels}
 use Rattle.laws.specs.Counting.{sum, rank}
 use Rattle.laws.specs.Bits.{words_for}
 use Rattle.laws.proofs.Cases.{both, refuted}
 use Rattle.laws.proofs.Sums.{sum-most, rank_none, none_rank}
 use Rattle.head.specs.Layout.{samples_of_size, size_at, word_start, sample_start, size_fits, bounded, used_of, fit}
-use Rattle.head.specs.Fit.{Bounded, Fit, measured}
+use Rattle.head.specs.Fit.{Bounded, Fit, used_fits, measured}
 use Rattle.head.specs.declared.Used.{Used}
 
 size_fits_lem : (size : ℕ) → min_bits ≤ size → size ≤ max_bits → not (size_fits size) ≡ false
@@ -123,14 +122,9 @@ module _ (count levels : ℕ) (sizes : List ℕ) (word_room sample_room : ℕ) w
   unfolding fit
   fit_unbounded e = rw (unbounded_known count levels sizes e)
 
-  module _ (used : Used) (e : Some used ≡ measured count levels sizes) where
-    pub fit_short : word_room < used.words → false ≡ fit count levels sizes word_room sample_room
-    unfolding fit
-    fit_short h = let k = uses_known count levels sizes used e in rw (k.0, lt-leb (word_start (size_at sizes) levels) word_room (rw k.1 at h))
-
-    pub fit_long : used.words ≤ word_room → leb used.samples sample_room ≡ fit count levels sizes word_room sample_room
-    unfolding fit
-    fit_long h = let k = uses_known count levels sizes used e in rw (k.0, k.1, le-leb (word_start (size_at sizes) levels) word_room (rw k.1 at h))
+  pub fit_used : (used : Used) → Some used ≡ measured count levels sizes → used_fits used word_room sample_room ≡ fit count levels sizes word_room sample_room
+  unfolding fit
+  fit_used used e = let k = uses_known count levels sizes used e in rw (k.0, k.1)
 
 -- ---- a walk over the first i sizes: they are in bounds, and the words and samples that they take are summed up
 

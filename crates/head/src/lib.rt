@@ -5,7 +5,7 @@ ghost use Rattle.std.specs.Prelude.{◌≡◌, ◌≤◌, ◌↔◌, All, IsTrue
 ghost use Rattle.bounds.specs.Bounds.{head_sizes};
 ghost use Rattle.head.specs.Index.{no_head};
 ghost use Rattle.head.specs.Layout.{unused_clear, fit};
-ghost use Rattle.head.specs.Fit.{measured};
+ghost use Rattle.head.specs.Fit.{used_fits, measured};
 
 use bounds::{HEAD_SIZES, MAX_BITS, MAX_IDS, MAX_LEVELS, MIN_BITS};
 use sizes::samples;
@@ -29,6 +29,15 @@ pub struct Head {
 pub struct Used {
     pub words: u64,
     pub samples: u64,
+}
+
+impl Used {
+    // Whether stores of so many words and samples have room for it.
+    pub fn fits(&self, word_room: usize, sample_room: usize) -> bool
+        ensures { result ≡ used_fits self.now word_room sample_room }
+    {
+        self.words <= word_room as u64 && self.samples <= sample_room as u64
+    }
 }
 
 impl Head {
@@ -72,7 +81,7 @@ impl Head {
         ensures { result ≡ fit self.now.count self.now.levels self.now.sizes word_room sample_room }
     {
         match self.measure() {
-            Some(used) => used.words <= word_room as u64 && used.samples <= sample_room as u64,
+            Some(used) => used.fits(word_room, sample_room),
             None => false,
         }
     }

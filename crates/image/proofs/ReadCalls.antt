@@ -18,7 +18,7 @@ use Rattle.mixer.specs.declared.Kind.{Kind}
 use Rattle.mixer.specs.Kinds.{kind_of}
 use Rattle.head.specs.declared.Head.{Head}
 use Rattle.head.specs.declared.Used.{Used}
-use Rattle.head.specs.Fit.{measured}
+use Rattle.head.specs.Fit.{used_fits, measured}
 use Rattle.head.proofs.Fits.{uses_known}
 use Rattle.head.specs.Index.{no_head}
 use Rattle.head.specs.Layout.{bounded, used_of, used_by, used_words, used_samples, unused_clear}
@@ -29,7 +29,7 @@ use Rattle.refusal.specs.declared.Refusal.TheVariants.{ShortOutput, BadBlock, Un
 use Rattle.refusal.proofs.Passed.{ok_passed}
 use Rattle.block.specs.Block.{block_content, block_bytes, blocks_for, first_bad, content_at}
 use Rattle.image.specs.Image.{form, older_form, is_form, head_place, left_out, words_place, content_end, image_blocks, min_blocks, block_count, length_fits, bad_block, content_from, form_in, numbers_in, head_in, words_in, samples_in, holds_index, ReadAfter, read_after, read_of, read_call, block_checks}
-use Rattle.image.specs.Steps.{has_room, form_number, form_of, content_measured}
+use Rattle.image.specs.Steps.{form_number, form_of, content_measured}
 use Rattle.image.specs.declared.reading.Form.{Form}
 use Rattle.image.specs.declared.reading.Form.TheVariants.{Current, Older}
 
@@ -233,13 +233,13 @@ module _ (image ws ss : List ℕ) where
     roomy word_room sample_room w s = rw (← passed.good, passed.form, ← passed.known, holds_is image _ _ _ passed.holds, w, s)
 
     module _ (used : Used) (u : used ≡ used_by (head_in image)) where
-      rooms : has_room used (length ws) (length ss) ≡ leb (used_words (head_in image)) (length ws) && leb (used_samples (head_in image)) (length ss)
+      rooms : used_fits used (length ws) (length ss) ≡ leb (used_words (head_in image)) (length ws) && leb (used_samples (head_in image)) (length ss)
       rooms = rw u refl
 
-      pub no_room : has_room used (length ws) (length ss) ≡ false → stays ShortOutput ≡ read_call image ws ss
+      pub no_room : used_fits used (length ws) (length ss) ≡ false → stays ShortOutput ≡ read_call image ws ss
       no_room e = ap (λ (b : Bool). check b ShortOutput stays (answered 0 (read_after (head_in image) (filled (words_in image) (length ws)) (filled (samples_in image) (length ss))))) (sym e ∙ rooms) ∙ roomy _ _ refl refl
 
-      pub read_done : has_room used (length ws) (length ss) ≡ true → (head : Head) (start : ℕ) (us vs : List ℕ) → head ≡ head_in image → start ≡ words_place (form_in image)
+      pub read_done : used_fits used (length ws) (length ss) ≡ true → (head : Head) (start : ℕ) (us vs : List ℕ) → head ≡ head_in image → start ≡ words_place (form_in image)
           → us ≡ filled (content_from image start used.words) (length ws) → vs ≡ filled (content_from image (start + used.words) used.samples) (length ss)
           → read_of (Ok head) us vs ≡ read_call image ws ss
       read_done e head start us vs h s p q = let r = both _ _ (sym rooms ∙ e) in rw (h, p, q, s, u) (roomy true true r.0 r.1)

@@ -16,11 +16,11 @@ use Rattle.head.specs.declared.Head.{Head}
 use Rattle.head.specs.declared.Used.{Used}
 use Rattle.head.specs.Layout.{used_by, fit, unused_clear}
 use Rattle.head.specs.Fit.{measured}
-use Rattle.head.proofs.Fits.{uses_known}
+use Rattle.head.proofs.Fits.{fit_used, uses_known}
 use Rattle.block.specs.Bytes.{all_bytes}
 use Rattle.block.specs.Block.{block_bytes, image_words}
 use Rattle.image.specs.Image.{form, image_blocks, content_of, image_of, write_call}
-use Rattle.image.specs.Steps.{has_room}
+use Rattle.head.specs.Fit.{used_fits}
 
 module _ (head : Head) (ws ss image : List ℕ) where
   pub write_unknown : (why : Refusal) → Err why ≡ kind_of head.kind → counted (Err why) image ≡ write_call head ws ss image
@@ -33,14 +33,13 @@ module _ (head : Head) (ws ss image : List ℕ) where
     write_unfit e = rw (← known, ← e)
 
     module _ (used : Used) (uses : Some used ≡ measured head.count head.levels head.sizes) where
-      fits : has_room used (length ws) (length ss) ≡ fit head.count head.levels head.sizes (length ws) (length ss)
-      unfolding fit
-      fits = let k = uses_known _ _ _ used uses in rw (k.0, k.1)
+      fits : used_fits used (length ws) (length ss) ≡ fit head.count head.levels head.sizes (length ws) (length ss)
+      fits = fit_used _ _ _ _ _ used uses
 
-      pub no_room : has_room used (length ws) (length ss) ≡ false → counted (Err UnfitHead) image ≡ write_call head ws ss image
+      pub no_room : used_fits used (length ws) (length ss) ≡ false → counted (Err UnfitHead) image ≡ write_call head ws ss image
       no_room n = write_unfit (sym n ∙ fits)
 
-      module _ (room : has_room used (length ws) (length ss) ≡ true) where
+      module _ (room : used_fits used (length ws) (length ss) ≡ true) where
         fitting : fit head.count head.levels head.sizes (length ws) (length ss) ≡ true
         fitting = sym fits ∙ room
 

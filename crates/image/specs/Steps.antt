@@ -1,5 +1,5 @@
 -- The steps of writing and reading an image, and what each tells and leaves.
-use Rattle.std.specs.Prelude.{ℕ, ◌+◌, ◌*◌, ◌≡◌, Bool, cond, ◌&&◌, List, eqb, leb, Option, None, Some, Result, Ok, Err}
+use Rattle.std.specs.Prelude.{ℕ, ◌+◌, ◌*◌, ◌≡◌, cond, List, eqb, Option, None, Some, Result, Ok, Err}
 use Rattle.laws.specs.Counting.{each}
 use Rattle.laws.specs.Stores.{pasted}
 use Rattle.refusal.specs.declared.Refusal.{Refusal}
@@ -12,10 +12,6 @@ use Rattle.image.specs.Image.{form, older_form, content_of, holds_index}
 use Rattle.image.specs.declared.reading.Form.{Form}
 use Rattle.image.specs.declared.reading.Form.TheVariants.{Current, Older}
 use Rattle.image.specs.declared.content.Content.{Content}
-
--- whether stores of so many words and samples have room for what is used
-abbrev pub has_room : Used → ℕ → ℕ → Bool
-has_room used word_room sample_room = leb used.words word_room && leb used.samples sample_room
 
 -- ---- writing
 

@@ -6,7 +6,7 @@ ghost use Rattle.block.specs.Block.{block_content, block_bytes, content_at};
 ghost use Rattle.image.specs.Image.{left_out, words_place, min_blocks, block_count, content_from, form_in, head_in, block_checks, read_of, read_call};
 ghost use Rattle.image.specs.Steps.{form_number, form_of, content_measured};
 
-use crate::{FORM, HEAD_PLACE, OLDER_FORM, WORDS_PLACE, has_room};
+use crate::{FORM, HEAD_PLACE, OLDER_FORM, WORDS_PLACE};
 use block::{BLOCK_BYTES, BLOCK_CONTENT, blocks_for, content_at, first_bad};
 use head::{Head, NUMBERS, Used};
 use mixer::Kind;
@@ -69,7 +69,7 @@ pub fn read(image: &[u8], words: &mut [u64], samples: &mut [u64]) -> Result<Head
     let head = head_in(image, form);
     Kind::try_from(head.kind)?;
     let used = check_content(image, form, &head).ok_or(Refusal::UnfitContent)?;
-    if !has_room(&used, words.len(), samples.len()) {
+    if !used.fits(words.len(), samples.len()) {
         return Err(Refusal::ShortOutput);
     }
     let word_end = used.words as usize;

@@ -7,8 +7,8 @@ ghost use Rattle.block.specs.Block.{block_bytes, block_of, image_words};
 ghost use Rattle.image.specs.Image.{write_call};
 ghost use Rattle.image.specs.Steps.{content, Contented};
 
+use crate::WORDS_PLACE;
 use crate::content::Content;
-use crate::{WORDS_PLACE, has_room};
 use block::{
     BLOCK_BYTES, BLOCK_CONTENT, BLOCK_WORDS, CHECK_PLACE, blocks_for, check_step, put_word,
 };
@@ -22,7 +22,7 @@ pub fn write(head: &Head, words: &[u64], samples: &[u64], image: &mut [u8]) -> R
 {
     Kind::try_from(head.kind)?;
     let used = head.measure().ok_or(Refusal::UnfitHead)?;
-    if !has_room(&used, words.len(), samples.len()) {
+    if !used.fits(words.len(), samples.len()) {
         return Err(Refusal::UnfitHead);
     }
     if !head.unused_clear() {

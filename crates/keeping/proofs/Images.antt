@@ -39,7 +39,7 @@ use Rattle.block.proofs.Changed.{length_changed, changed_bad}
 use Rattle.block.proofs.Undone.{checks_differ}
 use Rattle.block.proofs.Whole.{bytes_small, bytes_back, word_lt}
 use Rattle.block.proofs.Written.{length_all_bytes, length_image}
-use Rattle.image.specs.Steps.{has_room}
+use Rattle.head.specs.Fit.{used_fits}
 use Rattle.image.specs.Image.{form, is_form, content_end, image_blocks, content_of, image_of, write_call, block_checks}
 use Rattle.image.specs.Image.{min_blocks, block_count, bad_block, form_in, numbers_in, head_in, words_in, samples_in, holds_index, ReadAfter, read_after, after_blocks, read_call}
 use Rattle.image.proofs.ContentWords.{content_none}
@@ -278,7 +278,7 @@ module _ (image us vs : List ℕ) (small_bytes : Bytes image) (known : Accepted 
   image_is : image_read image us vs ≡ again
   image_is = ap (λ (r : Outcome ReadAfter). image_of r.after.head r.after.words r.after.samples) known.left ∙ again_is
 
-  fits_own : has_room (used_by head) (length ws) (length ss) ≡ true
+  fits_own : used_fits (used_by head) (length ws) (length ss) ≡ true
   fits_own =
       rw (
         length-filled (words_in image) (length us) (rw read_kept.all_words known.word_room),

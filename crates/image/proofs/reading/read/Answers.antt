@@ -66,13 +66,13 @@ returns-in_err-used c =
     _ (sym c.in_ok-try_from.was ∙ c.try_from-2.ensures ∙ ap (λ (it : Head). kind_of it.kind) c.head_in-head.ensures)
     (sym e ∙ c.check_content.ensures ∙ ap (λ (it : Head). content_measured c.args.image.now it.count it.levels it.sizes) c.head_in-head.ensures))
 
-pub returns-then-not-has_room : goal.returns-then-not-has_room
-returns-then-not-has_room c =
+pub returns-then-not-fits : goal.returns-then-not-fits
+returns-then-not-fits c =
     let e : c.check_content.result ≡ Some c.in_ok-used.used = grind arith in
     let p =
     all_passed _ _ _ _ _ (sym c.in_ok-check_blocks.was ∙ c.check_blocks.ensures) (sym c.in_ok-form.was ∙ c.try_from.ensures ∙ ap form_of c.content_at.ensures) c.head_in-head.ensures
     (sym c.in_ok-try_from.was ∙ c.try_from-2.ensures) (sym e ∙ c.check_content.ensures) in
-    no_room _ _ _ p.0 _ p.1 (sym c.has_room.ensures ∙ c.if-not-has_room.true)
+    no_room _ _ _ p.0 _ p.1 (sym c.fits.ensures ∙ c.if-not-fits.true)
 
 pub copy_content-requires : goal.copy_content-requires
 copy_content-requires c =
@@ -81,7 +81,7 @@ copy_content-requires c =
     all_passed _ _ _ _ _ (sym c.in_ok-check_blocks.was ∙ c.check_blocks.ensures) (sym c.in_ok-form.was ∙ c.try_from.ensures ∙ ap form_of c.content_at.ensures) c.head_in-head.ensures
     (sym c.in_ok-try_from.was ∙ c.try_from-2.ensures) (sym e ∙ c.check_content.ensures) in
     let s = c.words_place-start.ensures ∙ ap words_place (form_known _ _ (sym c.in_ok-form.was ∙ c.try_from.ensures ∙ ap form_of c.content_at.ensures)).1 in
-    let r = both _ _ (sym c.has_room.ensures ∙ c.if-not-has_room.false) in
+    let r = both _ _ (sym c.fits.ensures ∙ c.if-not-fits.false) in
     (leb-true _ _ r.0, words_there _ p.0 _ p.1 _ s)
 
 pub copy_content-requires-2 : goal.copy_content-requires-2
@@ -91,7 +91,7 @@ copy_content-requires-2 c =
     all_passed _ _ _ _ _ (sym c.in_ok-check_blocks.was ∙ c.check_blocks.ensures) (sym c.in_ok-form.was ∙ c.try_from.ensures ∙ ap form_of c.content_at.ensures) c.head_in-head.ensures
     (sym c.in_ok-try_from.was ∙ c.try_from-2.ensures) (sym e ∙ c.check_content.ensures) in
     let s = c.words_place-start.ensures ∙ ap words_place (form_known _ _ (sym c.in_ok-form.was ∙ c.try_from.ensures ∙ ap form_of c.content_at.ensures)).1 in
-    let r = both _ _ (sym c.has_room.ensures ∙ c.if-not-has_room.false) in
+    let r = both _ _ (sym c.fits.ensures ∙ c.if-not-fits.false) in
     (leb-true _ _ r.1, samples_there _ p.0 _ p.1 _ s)
 
 pub returns : goal.returns
@@ -101,4 +101,4 @@ returns c =
     all_passed _ _ _ _ _ (sym c.in_ok-check_blocks.was ∙ c.check_blocks.ensures) (sym c.in_ok-form.was ∙ c.try_from.ensures ∙ ap form_of c.content_at.ensures) c.head_in-head.ensures
     (sym c.in_ok-try_from.was ∙ c.try_from-2.ensures) (sym e ∙ c.check_content.ensures) in
     let s = c.words_place-start.ensures ∙ ap words_place (form_known _ _ (sym c.in_ok-form.was ∙ c.try_from.ensures ∙ ap form_of c.content_at.ensures)).1 in
-    read_done _ _ _ p.0 _ p.1 (sym c.has_room.ensures ∙ c.if-not-has_room.false) _ _ _ _ c.head_in-head.ensures s c.copy_content.ensures c.copy_content-2.ensures
+    read_done _ _ _ p.0 _ p.1 (sym c.fits.ensures ∙ c.if-not-fits.false) _ _ _ _ c.head_in-head.ensures s c.copy_content.ensures c.copy_content-2.ensures

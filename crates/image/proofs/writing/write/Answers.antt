@@ -20,10 +20,10 @@ returns-in_err-used c =
     let why : c.in_err-used.field-0.0 ≡ UnfitHead = grind arith in
     rw (told.1, told.2, why) (write_unfit _ _ _ _ _ (sym c.in_ok-try_from.was ∙ c.try_from.ensures) (fit_unbounded _ _ _ _ _ (sym e ∙ c.measure.ensures)))
 
-pub returns-then-not-has_room : goal.returns-then-not-has_room
-returns-then-not-has_room c =
+pub returns-then-not-fits : goal.returns-then-not-fits
+returns-then-not-fits c =
     let e : c.measure.result ≡ Some c.in_ok-used.used = grind arith in
-    no_room _ _ _ _ _ (sym c.in_ok-try_from.was ∙ c.try_from.ensures) _ (sym e ∙ c.measure.ensures) (sym c.has_room.ensures ∙ c.if-not-has_room.true)
+    no_room _ _ _ _ _ (sym c.in_ok-try_from.was ∙ c.try_from.ensures) _ (sym e ∙ c.measure.ensures) (sym c.fits.ensures ∙ c.if-not-fits.true)
 
 pub unused_clear-requires : goal.unused_clear-requires
 unused_clear-requires c =
@@ -33,7 +33,7 @@ unused_clear-requires c =
 pub returns-then-not-unused_clear : goal.returns-then-not-unused_clear
 returns-then-not-unused_clear c =
     let e : c.measure.result ≡ Some c.in_ok-used.used = grind arith in
-    sizes_left _ _ _ _ _ (sym c.in_ok-try_from.was ∙ c.try_from.ensures) _ (sym e ∙ c.measure.ensures) (sym c.has_room.ensures ∙ c.if-not-has_room.false)
+    sizes_left _ _ _ _ _ (sym c.in_ok-try_from.was ∙ c.try_from.ensures) _ (sym e ∙ c.measure.ensures) (sym c.fits.ensures ∙ c.if-not-fits.false)
     (sym c.unused_clear.ensures ∙ c.if-not-unused_clear.true)
 
 pub overflow_mul-blocks : goal.overflow_mul-blocks
@@ -44,11 +44,11 @@ overflow_mul-blocks c =
 pub returns-then-blocks-image : goal.returns-then-blocks-image
 returns-then-blocks-image c =
     let e : c.measure.result ≡ Some c.in_ok-used.used = grind arith in
-    image_short _ _ _ _ _ (sym c.in_ok-try_from.was ∙ c.try_from.ensures) _ (sym e ∙ c.measure.ensures) (sym c.has_room.ensures ∙ c.if-not-has_room.false)
+    image_short _ _ _ _ _ (sym c.in_ok-try_from.was ∙ c.try_from.ensures) _ (sym e ∙ c.measure.ensures) (sym c.fits.ensures ∙ c.if-not-fits.false)
     (sym c.unused_clear.ensures ∙ c.if-not-unused_clear.false) _ c.blocks_for-blocks.ensures c.if-blocks-image.true
 
 pub returns : goal.returns
 returns c =
     let e : c.measure.result ≡ Some c.in_ok-used.used = grind arith in
-    image_written _ _ _ _ _ (sym c.in_ok-try_from.was ∙ c.try_from.ensures) _ (sym e ∙ c.measure.ensures) (sym c.has_room.ensures ∙ c.if-not-has_room.false)
+    image_written _ _ _ _ _ (sym c.in_ok-try_from.was ∙ c.try_from.ensures) _ (sym e ∙ c.measure.ensures) (sym c.fits.ensures ∙ c.if-not-fits.false)
     (sym c.unused_clear.ensures ∙ c.if-not-unused_clear.false) _ c.blocks_for-blocks.ensures c.if-blocks-image.false _ c.write_blocks.ensures
