@@ -1,3 +1,4 @@
 -- What a user has to believe.
 pub mod Find
+-- What only serves inner contracts.
 pub mod Fitting
