@@ -13,7 +13,7 @@ pub(crate) struct Content<'a> {
     pub(crate) words: &'a [u64],
     pub(crate) samples: &'a [u64],
 
-    // So many sizes the array has; of a struct behind a reference no proof knows it.
+    // The array has so many sizes: no proof knows that of a struct behind a reference.
     ghost sized: { length head.now.sizes ≡ head_sizes },
 }
 

@@ -42,7 +42,7 @@ pub fn write(head: &Head, words: &[u64], samples: &[u64], image: &mut [u8]) -> R
 }
 
 impl Content<'_> {
-    // Writes its n blocks, one after another.
+    // Writes its n blocks, one after another. Each goes by its number: once chunks_exact_mut has lent the blocks, no proof knows what was written into them.
     fn write_blocks(&self, n: usize, image: &mut [u8])
         requires { block_bytes * n ≤ length image.old }
         ensures { image.new ≡ fronted (all_bytes (image_words (content self.now) n)) image.old }
@@ -63,7 +63,7 @@ impl Content<'_> {
         put_word(image, first + CHECK_PLACE, check);
     }
 
-    // Writes the content of block b behind its number; the check of both.
+    // Writes the content of block b behind its number; the check of both. A word goes by its number, which gives its place in the content and in the block.
     fn write_content(&self, b: usize, image: &mut [u8]) -> u64
         requires { block_bytes * b + block_bytes ≤ length image.old }
         ensures { Contented (content self.now) b image.old result image.new }
