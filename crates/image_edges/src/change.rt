@@ -8,16 +8,16 @@ use trial::stores::first;
 // So many bytes of an image, in which a word is put in some place, and then the checks are mended or not; read into stores of so many places.
 #[derive(Clone, Copy)]
 pub struct Change {
-    pub bytes: usize,
-    pub place: usize,
-    pub word: u64,
-    pub mended: bool,
-    pub words: usize,
-    pub samples: usize,
+    bytes: usize,
+    place: usize,
+    word: u64,
+    mended: bool,
+    words: usize,
+    samples: usize,
 }
 
 impl Change {
-    // Of an image of two blocks, whose checks are mended, and stores of one level of 255 bits: what the other lines change.
+    // Of two blocks, whose checks are mended; read into stores of one level of 255 bits.
     pub fn new(place: usize, word: u64) -> Change {
         Change {
             bytes: 1024,
@@ -26,6 +26,26 @@ impl Change {
             mended: true,
             words: 4,
             samples: 1,
+        }
+    }
+
+    pub fn bytes(self, bytes: usize) -> Change {
+        Change { bytes, ..self }
+    }
+
+    pub fn unmended(self) -> Change {
+        Change {
+            mended: false,
+            ..self
+        }
+    }
+
+    // Read into stores of so many places.
+    pub fn into_stores(self, words: usize, samples: usize) -> Change {
+        Change {
+            words,
+            samples,
+            ..self
         }
     }
 

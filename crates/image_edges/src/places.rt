@@ -3,7 +3,7 @@ use block::{BLOCK_BYTES, CHECK_PLACE, check_step, put_word};
 use std::fmt;
 
 pub fn word(image: &[u8], place: usize) -> u64 {
-    let (words, _) = image.as_chunks();
+    let (words, _) = image.as_chunks::<8>();
     words.get(place).map_or(0, |word| u64::from_le_bytes(*word))
 }
 
@@ -21,12 +21,11 @@ pub fn mend(image: &mut [u8]) {
 }
 
 fn mend_block(block: &mut [u8]) {
-    let (words, _) = block.as_chunks();
+    let (words, _) = block.as_chunks::<8>();
     let checked = words.iter().take(CHECK_PLACE);
-    let check = checked.fold(
-        0,
-        |check, word| check_step(check, u64::from_le_bytes(*word)),
-    );
+    let check = checked
+        .map(|word| u64::from_le_bytes(*word))
+        .fold(0, check_step);
     put(block, CHECK_PLACE, check);
 }
 
@@ -36,7 +35,7 @@ pub struct Words<'a>(pub &'a [u8]);
 
 impl fmt::Display for Words<'_> {
     fn fmt<W: fmt::Write>(&self, f: &mut fmt::Formatter<W>) -> fmt::Result {
-        let (words, _) = self.0.as_chunks();
+        let (words, _) = self.0.as_chunks::<8>();
         for word in words {
             write!(f, " {}", u64::from_le_bytes(*word))?;
         }

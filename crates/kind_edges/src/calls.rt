@@ -34,13 +34,13 @@ pub(crate) fn builds(rt: &impl Print) -> io::Result<()> {
 
 // The index of 9, by a head of this kind and so many levels, with this sample.
 fn index(kind: u64, levels: u64, samples: &[u64]) -> Stored<'_> {
+    let of_9 = Write {
+        kind,
+        levels,
+        ..OF_9
+    };
     Stored {
-        head: Write {
-            kind,
-            levels,
-            ..OF_9
-        }
-        .head(),
+        head: of_9.head(),
         words: &[0, 0, 4, 0],
         samples,
     }

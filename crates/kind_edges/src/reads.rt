@@ -20,42 +20,12 @@ pub(crate) fn beside(rt: &impl Print) -> io::Result<()> {
     changed(rt, 1, Change::new(4, 0))?;
     changed(rt, 1, Change::new(5, 254))?;
     changed(rt, 1, Change::new(6, 1))?;
-    let plain = Change::new(1, 2);
-    changed(
-        rt,
-        1,
-        Change {
-            bytes: 1536,
-            ..plain
-        },
-    )?;
+    changed(rt, 1, Change::new(1, 2).bytes(1536))?;
     changed(rt, 1, Change::new(112, 1))?;
-    changed(
-        rt,
-        1,
-        Change {
-            words: 3,
-            samples: 0,
-            ..plain
-        },
-    )?;
+    changed(rt, 1, Change::new(1, 2).into_stores(3, 0))?;
     // 13 and 14 before 16.
-    changed(
-        rt,
-        1,
-        Change {
-            bytes: 1023,
-            ..plain
-        },
-    )?;
-    changed(
-        rt,
-        1,
-        Change {
-            mended: false,
-            ..plain
-        },
-    )
+    changed(rt, 1, Change::new(1, 2).bytes(1023))?;
+    changed(rt, 1, Change::new(1, 2).unmended())
 }
 
 // A line: the image, with this kind and with a block 2 of zeros behind it, is changed and read.

@@ -74,27 +74,9 @@ pub fn changes(rt: &impl Print) -> io::Result<()> {
         changed(rt, Change::new(place, word))?;
     }
     block_counts(rt)?;
-    changed(
-        rt,
-        Change {
-            words: 3,
-            ..Change::new(2, 1)
-        },
-    )?;
-    changed(
-        rt,
-        Change {
-            samples: 0,
-            ..Change::new(2, 1)
-        },
-    )?;
-    changed(
-        rt,
-        Change {
-            mended: false,
-            ..Change::new(2, 2)
-        },
-    )?;
+    changed(rt, Change::new(2, 1).into_stores(3, 1))?;
+    changed(rt, Change::new(2, 1).into_stores(4, 0))?;
+    changed(rt, Change::new(2, 2).unmended())?;
     // As the form that is written, with the id count for a kind.
     changed(rt, Change::new(1, 2))
 }
@@ -107,15 +89,8 @@ fn block_counts(rt: &impl Print) -> io::Result<()> {
         (1536, 1152, 18),
         (1536, 1153, 19),
     ] {
-        changed(
-            rt,
-            Change {
-                bytes,
-                words,
-                samples: 3,
-                ..Change::new(4, bits)
-            },
-        )?;
+        let blocks = Change::new(4, bits).bytes(bytes);
+        changed(rt, blocks.into_stores(words, 3))?;
     }
     Ok(())
 }

@@ -11,13 +11,7 @@ pub fn contents(rt: &impl Print) -> io::Result<()> {
     }
     block_counts(rt)?;
     // 14 before 15.
-    changed(
-        rt,
-        Change {
-            mended: false,
-            ..Change::new(1, 3)
-        },
-    )
+    changed(rt, Change::new(1, 3).unmended())
 }
 
 // The form, the id count, the level count and the size of level 0.
@@ -53,58 +47,22 @@ fn block_counts(rt: &impl Print) -> io::Result<()> {
         (1536, 1088, 17),
         (1536, 1089, 18),
     ] {
-        changed(
-            rt,
-            Change {
-                bytes,
-                words,
-                samples: 3,
-                ..Change::new(5, bits)
-            },
-        )?;
+        let blocks = Change::new(5, bits).bytes(bytes);
+        changed(rt, blocks.into_stores(words, 3))?;
     }
-    changed(
-        rt,
-        Change {
-            bytes: 1536,
-            ..Change::new(5, 255)
-        },
-    )
+    changed(rt, Change::new(5, 255).bytes(1536))
 }
 
 // Stores of exactly the need, of one place fewer, and of more.
 pub fn stores(rt: &impl Print) -> io::Result<()> {
     for (words, samples) in [(4, 1), (3, 1), (4, 0), (6, 3)] {
-        changed(
-            rt,
-            Change {
-                words,
-                samples,
-                ..Change::new(1, 2)
-            },
-        )?;
+        changed(rt, Change::new(1, 2).into_stores(words, samples))?;
     }
     changed(rt, Change::new(5, 257))?;
-    changed(
-        rt,
-        Change {
-            words: 5,
-            ..Change::new(5, 257)
-        },
-    )?;
+    changed(rt, Change::new(5, 257).into_stores(5, 1))?;
     // 14 and 15 before 11.
-    let short = Change {
-        words: 3,
-        samples: 0,
-        ..Change::new(1, 3)
-    };
-    changed(
-        rt,
-        Change {
-            mended: false,
-            ..short
-        },
-    )?;
+    let short = Change::new(1, 3).into_stores(3, 0);
+    changed(rt, short.unmended())?;
     changed(rt, short)
 }
 

@@ -24,23 +24,11 @@ pub fn blocks(rt: &impl Print) -> io::Result<()> {
 fn numbers(rt: &impl Print) -> io::Result<()> {
     for (place, word) in [(0, 1), (64, 0)] {
         let number = Change::new(place, word);
-        changed(
-            rt,
-            Change {
-                mended: false,
-                ..number
-            },
-        )?;
+        changed(rt, number.unmended())?;
         changed(rt, number)?;
     }
     changed(rt, Change::new(64, 2))?;
-    changed(
-        rt,
-        Change {
-            bytes: 1536,
-            ..Change::new(128, 3)
-        },
-    )
+    changed(rt, Change::new(128, 3).bytes(1536))
 }
 
 // One bit turned in a number, in the first and the last content of a block, and in a check; and one in each of two blocks.
