@@ -1,4 +1,5 @@
-// Sets of numbers below a capacity, in words that the caller lends: bit b is bit b mod 64 of word b / 64. Each call checks what it is given.
+// Sets of numbers below a capacity, in words that the caller lends: bit b is bit b mod 64 of word b / 64. Each call checks what it is given. Capacity and words are
+// two parameters, as in the calls for C, which lend both anew each time.
 #![tactic(auto)]
 
 ghost use Rattle.std.specs.Prelude.{◌≡◌};

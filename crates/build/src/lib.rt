@@ -78,7 +78,7 @@ fn begin(ids: &[u64], lent: &mut Stores)
     copy(ids, lent.rest);
 }
 
-// Copies the ids to the front of the rest store.
+// Copies the ids to the front of the rest store. A function on a plain slice: of a copy into a field of a lent struct the check knows the length alone.
 fn copy(ids: &[u64], rest: &mut [u64])
     requires { length ids.now ≤ length rest.old }
     ensures { rest.new ≡ fronted ids.now rest.old }
