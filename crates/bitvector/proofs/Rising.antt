@@ -11,7 +11,7 @@ use borrow.Author.Tests.{lt-ltb, leb-true}
 use lib.Bits.{bit_and}
 use lib.Count.{ones, count_trailing_zeros}
 use lib.Dec.{eqb, leb}
-use lib.ListN.{length, get_or, set, take, drop}
+use lib.ListN.{length, get_or, set, take, drop, length-append}
 use lib.Pow.{pow_pos}
 use lib.Seq.{sets, sets-eq, length-sets}
 use Rattle.laws.specs.Counting.{one, rank, chain}
@@ -168,30 +168,48 @@ module _ (ws : List ℕ) (base place : ℕ) (out : List ℕ) where
 pub front_length : {ws out₀ : List ℕ} {i next : ℕ} {out : List ℕ} → Front ws out₀ i next out → length out ≡ length out₀
 front_length x = ap length x.store ∙ simp length-sets refl
 
+-- the bits of the words from i on and before j stand in the store from `place` on, and the place after them is told
+pub record Span (ws : List ℕ) (i j place : ℕ) (out : List ℕ) (next : ℕ) (after : List ℕ) : Type 0 where
+  pub told : next + rank (has ws) (64 * i) ≡ place + rank (has ws) (64 * j)
+  pub store : after ≡ sets out place (counted_from (64 * i) (λ k. has ws (64 * i + k)) (64 * (j - i)))
+
+-- so do those of a part
+pub part_span : {ws : List ℕ} {i place next : ℕ} {part out after : List ℕ} → PartOf ws i part → Listed part (length part) (64 * i) place out next after
+    → Span ws i (i + length part) place out next after
+unfolding counted_from
+part_span {ws} {i} {place} {next} {part} {out} p y =
+    let n : i + length part - i ≡ length part = omega arith in
+    record {
+      told = omega (arith, y.told, part_rank p);
+      store = y.store ∙ ap (sets out place)
+          (chain_same _ _ (64 * length part) (λ k l. ap (λ (t : Bool). cond t ((64 * i + k) ∷ []) []) (p.bits k l))
+          ∙ ap (λ (m : ℕ). counted_from (64 * i) (λ k. has ws (64 * i + k)) (64 * m)) (sym n));
+    }
+
 -- those of the words from i on are put after those of the words before
-module _ {ws out₀ : List ℕ} {i next : ℕ} {out part : List ℕ} (p : PartOf ws i part) (x : Front ws out₀ i next out) where
-  split : rising (has ws) (64 * (i + length part)) ≡ rising (has ws) (64 * i) ++ counted_from (64 * i) (has part) (64 * length part)
+module _ (ws out₀ : List ℕ) (i j next : ℕ) (out : List ℕ) (l : i ≤ j) (x : Front ws out₀ i next out) where
+  abbrev between : List ℕ
+  between = counted_from (64 * i) (λ k. has ws (64 * i + k)) (64 * (j - i))
+
+  split : rising (has ws) (64 * j) ≡ rising (has ws) (64 * i) ++ between
   unfolding counted_from
   split =
-      let e : 64 * (i + length part) ≡ 64 * i + 64 * length part = omega arith in
-      let member : ℕ → List ℕ = λ b. cond (has ws b) (b ∷ []) [] in
-      ap (chain member) e ∙ chain_split member (64 * i) (64 * length part)
-      ∙ ap (λ (l : List ℕ). chain member (64 * i) ++ l)
-      (chain_same _ _ (64 * length part) (λ k l. ap (λ (t : Bool). cond t ((64 * i + k) ∷ []) []) (sym (p.bits k l))))
+      let past : 64 * j ≡ 64 * i + 64 * (j - i) = omega arith in
+      ap (rising (has ws)) past ∙ chain_split (λ b. cond (has ws b) (b ∷ []) []) (64 * i) (64 * (j - i))
 
-  pub front_on : {next₂ : ℕ} {after : List ℕ} → Listed part (length part) (64 * i) next out next₂ after → Front ws out₀ (i + length part) next₂ after
+  pub front_on : {next₂ : ℕ} {after : List ℕ} → Span ws i j next out next₂ after → Front ws out₀ j next₂ after
   front_on y =
       let r : List ℕ = rising (has ws) (64 * i) in
-      let t : List ℕ = counted_from (64 * i) (has part) (64 * length part) in
       let k : next ≡ 0 + length r = x.told ∙ sym (length-rising (has ws) (64 * i)) ∙ sym (zero-add (length r)) in
-      record { told = omega (arith, x.told, y.told, part_rank p); store = rw (split, sets_append out₀ r t 0, ← k, ← x.store) y.store }
+      record { told = omega (arith, x.told, y.told); store = rw (split, sets_append out₀ r between 0, ← k, ← x.store) y.store }
 
   -- where they have none, nothing is
-  pub front_over : rank (has part) (64 * length part) ≡ 0 → Front ws out₀ (i + length part) next out
+  pub front_over : rank (has ws) (64 * j) ≡ rank (has ws) (64 * i) → Front ws out₀ j next out
   front_over e =
-      let t : List ℕ = counted_from (64 * i) (has part) (64 * length part) in
-      let none : t ≡ [] = empty t (length_counted (64 * i) (has part) (64 * length part) ∙ e) in
-      record { told = omega (arith, x.told, e, part_rank p); store = rw (split, none, append-nil (rising (has ws) (64 * i))) x.store }
+      let whole : length (rising (has ws) (64 * i) ++ between) ≡ length (rising (has ws) (64 * i)) =
+      ap length (sym split) ∙ length-rising (has ws) (64 * j) ∙ e ∙ sym (length-rising (has ws) (64 * i)) in
+      let none : between ≡ [] = empty between (omega (arith, whole, length-append (rising (has ws) (64 * i)) between)) in
+      record { told = x.told ∙ sym e; store = rw (split, none, append-nil (rising (has ws) (64 * i))) x.store }
 
 -- the words at the front of others
 pub front_of_front : (ws : List ℕ) (n : ℕ) {front : List ℕ} → front ≡ take n ws → length front ≡ n → {out₀ : List ℕ} {next : ℕ} {out : List ℕ}
