@@ -23,7 +23,7 @@ use Rattle.laws.proofs.Digits.{digit_lt, down_le, down_same, down_other, ones_lo
 use Rattle.laws.proofs.Words.{has-digit}
 use Rattle.laws.proofs.Ones.{rank_next}
 use Rattle.bitvector.specs.Sets.{Plain, rising, set_of}
-use Rattle.bitvector.specs.Steps.{counted_from, numbers_in, WordListed, Listed, Front}
+use Rattle.bitvector.specs.Steps.{counted_from, numbers_in, WordListed, PartListed, stretch, Listed, Front}
 use Rattle.refusal.specs.Answers.{answered, refused}
 use Rattle.refusal.specs.declared.Refusal.TheVariants.{ShortOutput}
 use Rattle.bitvector.specs.Calls.{sound, members_call}
@@ -146,14 +146,14 @@ sets_append l (u ∷ us) vs i =
 
 module _ (ws : List ℕ) (base place : ℕ) (out : List ℕ) where
   -- no word
-  pub listed_none : Listed ws 0 base place out place out
+  pub part_none : PartListed ws 0 base place out place out
   unfolding counted_from
-  listed_none = record { told = sym (add-zero place); store = refl }
+  part_none = record { told = sym (add-zero place); store = refl }
 
   -- one word more
-  pub listed_turn : Words ws → (j : ℕ) {next next₂ : ℕ} {mid after : List ℕ} → Listed ws j base place out next mid
-      → WordListed (base + 64 * j) (get_or ws j 0) next mid next₂ after → Listed ws (j + 1) base place out next₂ after
-  listed_turn f j {next = next} x y =
+  pub part_turn : Words ws → (j : ℕ) {next next₂ : ℕ} {mid after : List ℕ} → PartListed ws j base place out next mid
+      → WordListed (base + 64 * j) (get_or ws j 0) next mid next₂ after → PartListed ws (j + 1) base place out next₂ after
+  part_turn f j {next = next} x y =
       let r : List ℕ = counted_from base (has ws) (64 * j) in
       let on : next ≡ place + length r = omega (arith, x.told, length_counted base (has ws) (64 * j)) in
       record {
@@ -163,41 +163,87 @@ module _ (ws : List ℕ) (base place : ℕ) (out : List ℕ) where
             ∙ rw (counted_next base ws j, on) (sym (sets_append out r (numbers_in (base + 64 * j) (get_or ws j 0)) place));
       }
 
+-- ---- from one word of a list up to another
+
+-- from a on, where they are the numbers below a and those from there on
+rising-stretch : (s : Plain) (a n : ℕ) → rising s (a + n) ≡ rising s a ++ stretch s a n
+unfolding stretch
+rising-stretch s a n = chain_split _ a n
+
+length-stretch : (s : Plain) (a n : ℕ) → rank s a + length (stretch s a n) ≡ rank s (a + n)
+length-stretch s a n =
+    ap (λ (k : ℕ). k + length (stretch s a n)) (sym (length-rising s a)) ∙ sym (length-append (rising s a) (stretch s a n))
+    ∙ ap length (sym (rising-stretch s a n)) ∙ length-rising s (a + n)
+
+-- one word more
+stretch_next : (ws : List ℕ) (i m : ℕ) → stretch (has ws) (64 * i) (64 * (m + 1)) ≡ stretch (has ws) (64 * i) (64 * m) ++ numbers_in ((i + m) * 64) (get_or ws (i + m) 0)
+unfolding stretch numbers_in counted_from
+stretch_next ws i m =
+    let e : 64 * (m + 1) ≡ 64 * m + 64 = omega arith in
+    let member : ℕ → List ℕ = λ k. cond (has ws (64 * i + k)) ((64 * i + k) ∷ []) [] in
+    ap (chain member) e ∙ chain_split member (64 * m) 64
+    ∙ ap (λ (l : List ℕ). chain member (64 * m) ++ l)
+    (chain_same _ _ 64 (λ k l. ap₂ (λ (t : Bool) (b : ℕ). cond t (b ∷ []) []) (test k l) (same k)))
+  where
+    same : (k : ℕ) → 64 * i + (64 * m + k) ≡ (i + m) * 64 + k
+    same k = omega arith
+
+    back : (t : Bool) → t ≡ eqb (one t) 1
+    back true = refl
+    back false = refl
+
+    test : (k : ℕ) → k < 64 → has ws (64 * i + (64 * m + k)) ≡ eqb (digit (get_or ws (i + m) 0) k) 1
+    test k l =
+        let e : 64 * i + (64 * m + k) ≡ 64 * (i + m) + k = omega arith in
+        ap (has ws) e ∙ back (has ws (64 * (i + m) + k)) ∙ ap (λ (d : ℕ). eqb d 1) (has-digit ws (i + m) k l)
+
+module _ (ws : List ℕ) (i : ℕ) where
+  -- one word more
+  pub listed_turn : Words ws → (j : ℕ) → i ≤ j → (place : ℕ) {next next₂ : ℕ} (out : List ℕ) {mid after : List ℕ} → Listed ws i j place out next mid
+      → WordListed (j * 64) (get_or ws j 0) next mid next₂ after → Listed ws i (j + 1) place out next₂ after
+  listed_turn f j l place {next = next} out {mid = mid} {after = after} x y =
+      let m : ℕ = j - i in
+      let r : List ℕ = stretch (has ws) (64 * i) (64 * m) in
+      let e : j + 1 - i ≡ m + 1 = omega arith in
+      let at : i + m ≡ j = omega arith in
+      let far : 64 * i + 64 * m ≡ 64 * j = omega arith in
+      let on : next ≡ place + length r = omega (arith, x.told, length-stretch (has ws) (64 * i) (64 * m), ap (rank (has ws)) far) in
+      record {
+        told = omega (arith, x.told, y.told, rank_next ws f j);
+        store =
+            y.store ∙ ap (λ (o : List ℕ). sets o next (numbers_in (j * 64) (get_or ws j 0))) x.store
+            ∙ rw (e, stretch_next ws i m, at, on) (sym (sets_append out r (numbers_in (j * 64) (get_or ws j 0)) place));
+      }
+
 -- ---- the front of the store
 
 pub front_length : {ws out₀ : List ℕ} {i next : ℕ} {out : List ℕ} → Front ws out₀ i next out → length out ≡ length out₀
 front_length x = ap length x.store ∙ simp length-sets refl
 
--- the bits of the words from i on and before j stand in the store from `place` on, and the place after them is told
-pub record Span (ws : List ℕ) (i j place : ℕ) (out : List ℕ) (next : ℕ) (after : List ℕ) : Type 0 where
-  pub told : next + rank (has ws) (64 * i) ≡ place + rank (has ws) (64 * j)
-  pub store : after ≡ sets out place (counted_from (64 * i) (λ k. has ws (64 * i + k)) (64 * (j - i)))
-
--- so do those of a part
-pub part_span : {ws : List ℕ} {i place next : ℕ} {part out after : List ℕ} → PartOf ws i part → Listed part (length part) (64 * i) place out next after
-    → Span ws i (i + length part) place out next after
-unfolding counted_from
+-- the words of a part are so listed
+pub part_span : {ws : List ℕ} {i place next : ℕ} {part out after : List ℕ} → PartOf ws i part → PartListed part (length part) (64 * i) place out next after
+    → Listed ws i (i + length part) place out next after
+unfolding counted_from stretch
 part_span {ws} {i} {place} {next} {part} {out} p y =
     let n : i + length part - i ≡ length part = omega arith in
     record {
       told = omega (arith, y.told, part_rank p);
       store = y.store ∙ ap (sets out place)
           (chain_same _ _ (64 * length part) (λ k l. ap (λ (t : Bool). cond t ((64 * i + k) ∷ []) []) (p.bits k l))
-          ∙ ap (λ (m : ℕ). counted_from (64 * i) (λ k. has ws (64 * i + k)) (64 * m)) (sym n));
+          ∙ ap (λ (m : ℕ). stretch (has ws) (64 * i) (64 * m)) (sym n));
     }
 
 -- those of the words from i on are put after those of the words before
 module _ (ws out₀ : List ℕ) (i j next : ℕ) (out : List ℕ) (l : i ≤ j) (x : Front ws out₀ i next out) where
   abbrev between : List ℕ
-  between = counted_from (64 * i) (λ k. has ws (64 * i + k)) (64 * (j - i))
+  between = stretch (has ws) (64 * i) (64 * (j - i))
 
   split : rising (has ws) (64 * j) ≡ rising (has ws) (64 * i) ++ between
-  unfolding counted_from
   split =
       let past : 64 * j ≡ 64 * i + 64 * (j - i) = omega arith in
-      ap (rising (has ws)) past ∙ chain_split (λ b. cond (has ws b) (b ∷ []) []) (64 * i) (64 * (j - i))
+      ap (rising (has ws)) past ∙ rising-stretch (has ws) (64 * i) (64 * (j - i))
 
-  pub front_on : {next₂ : ℕ} {after : List ℕ} → Span ws i j next out next₂ after → Front ws out₀ j next₂ after
+  pub front_on : {next₂ : ℕ} {after : List ℕ} → Listed ws i j next out next₂ after → Front ws out₀ j next₂ after
   front_on y =
       let r : List ℕ = rising (has ws) (64 * i) in
       let k : next ≡ 0 + length r = x.told ∙ sym (length-rising (has ws) (64 * i)) ∙ sym (zero-add (length r)) in

@@ -5,9 +5,10 @@ use head::NUMBERS;
 use host::shawltide_lookup;
 use lists::line::Line;
 
-// How many numbers a head is, and the kind that it has here.
+// How many numbers a head is.
 pub const HEAD: usize = NUMBERS;
 
+// The kind of the heads here, as the calls for hosts take it: by its number.
 pub const PLAIN: u64 = 0;
 
 // An index, as the calls for hosts take it.
