@@ -14,8 +14,8 @@ use trial::measure::measure;
 
 // state, output: of the public splitmix64.c
 pub fn splitmix(line: Line<'_>) -> bool
-    ensures { IsTrue result ↔ (count_of line.entry ≡ 2
-        × number_at line.entry 1 ≡ mixed (number_at line.entry 0) 0) }
+    ensures { let n = number_at line.entry in
+        IsTrue result ↔ (count_of line.entry ≡ 2 × n 1 ≡ mixed (n 0) 0) }
 {
     let mixed = mixer::mix(line.number(0), 0);
     line.len() == 2 && mixed == line.number(1)
@@ -23,8 +23,8 @@ pub fn splitmix(line: Line<'_>) -> bool
 
 // level, id, hash
 pub fn hash(line: Line<'_>) -> bool
-    ensures { IsTrue result ↔ (count_of line.entry ≡ 3
-        × number_at line.entry 2 ≡ hashed Plain (number_at line.entry 0) (number_at line.entry 1)) }
+    ensures { let n = number_at line.entry in
+        IsTrue result ↔ (count_of line.entry ≡ 3 × n 2 ≡ hashed Plain (n 0) (n 1)) }
 {
     let hash = mixer::hash_with_seed(mixer::Kind::Plain, line.number(0), line.number(1));
     line.len() == 3 && hash == line.number(2)
@@ -32,8 +32,8 @@ pub fn hash(line: Line<'_>) -> bool
 
 // value, folded
 pub fn fold(line: Line<'_>) -> bool
-    ensures { IsTrue result ↔ (count_of line.entry ≡ 2
-        × number_at line.entry 1 ≡ folded (number_at line.entry 0)) }
+    ensures { let n = number_at line.entry in
+        IsTrue result ↔ (count_of line.entry ≡ 2 × n 1 ≡ folded (n 0)) }
 {
     let folded = u64::from(mixer::fold(line.number(0)));
     line.len() == 2 && folded == line.number(1)
@@ -41,10 +41,8 @@ pub fn fold(line: Line<'_>) -> bool
 
 // level, size, id, position. A size that no level can have is no case.
 pub fn position(line: Line<'_>) -> bool
-    ensures { IsTrue result ↔ (count_of line.entry ≡ 4
-        × number_at line.entry 1 ≤ max_bits
-        × number_at line.entry 3 ≡ position_of Plain (number_at line.entry 0) (number_at line.entry 1)
-        (number_at line.entry 2)) }
+    ensures { let n = number_at line.entry in
+        IsTrue result ↔ (count_of line.entry ≡ 4 × n 1 ≤ max_bits × n 3 ≡ position_of Plain (n 0) (n 1) (n 2)) }
 {
     let size = line.number(1);
     if size > bounds::MAX_BITS {
