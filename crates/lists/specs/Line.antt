@@ -9,5 +9,5 @@ abbrev pub count_of : Line → ℕ
 count_of line = line.len
 
 -- the number at a place, 0 past the end
-abbrev pub number_at : Line → ℕ → ℕ
+unfoldable pub number_at : Line → ℕ → ℕ
 number_at line at = unwrap_or (slice_get (lent_by line) at) 0

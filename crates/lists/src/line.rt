@@ -39,6 +39,7 @@ impl<'a> Line<'a> {
     }
 
     // The number at a place; 0 past the end.
+    #[tactic(auto, unfolding(crate::specs::Line::number_at))]
     pub fn number(self, at: usize) -> u64
         ensures { result ≡ number_at self.entry at }
     {
