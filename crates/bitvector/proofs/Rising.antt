@@ -11,7 +11,7 @@ use borrow.Author.Tests.{lt-ltb, leb-true}
 use lib.Bits.{bit_and}
 use lib.Count.{ones, count_trailing_zeros}
 use lib.Dec.{eqb, leb}
-use lib.ListN.{length, get_or, set, take, drop}
+use lib.ListN.{length, get_or, set, take, drop, length-append}
 use lib.Pow.{pow_pos}
 use lib.Seq.{sets, sets-eq, length-sets}
 use Rattle.laws.specs.Counting.{one, rank, chain}
@@ -23,7 +23,7 @@ use Rattle.laws.proofs.Digits.{digit_lt, down_le, down_same, down_other, ones_lo
 use Rattle.laws.proofs.Words.{has-digit}
 use Rattle.laws.proofs.Ones.{rank_next}
 use Rattle.bitvector.specs.Sets.{Plain, rising, set_of}
-use Rattle.bitvector.specs.Steps.{counted_from, numbers_in, WordListed, Listed, Front}
+use Rattle.bitvector.specs.Steps.{counted_from, numbers_in, WordListed, PartListed, stretch, Listed, Front}
 use Rattle.refusal.specs.Answers.{answered, refused}
 use Rattle.refusal.specs.declared.Refusal.TheVariants.{ShortOutput}
 use Rattle.bitvector.specs.Calls.{sound, members_call}
@@ -146,14 +146,14 @@ sets_append l (u ∷ us) vs i =
 
 module _ (ws : List ℕ) (base place : ℕ) (out : List ℕ) where
   -- no word
-  pub listed_none : Listed ws 0 base place out place out
+  pub part_none : PartListed ws 0 base place out place out
   unfolding counted_from
-  listed_none = record { told = sym (add-zero place); store = refl }
+  part_none = record { told = sym (add-zero place); store = refl }
 
   -- one word more
-  pub listed_turn : Words ws → (j : ℕ) {next next₂ : ℕ} {mid after : List ℕ} → Listed ws j base place out next mid
-      → WordListed (base + 64 * j) (get_or ws j 0) next mid next₂ after → Listed ws (j + 1) base place out next₂ after
-  listed_turn f j {next = next} x y =
+  pub part_turn : Words ws → (j : ℕ) {next next₂ : ℕ} {mid after : List ℕ} → PartListed ws j base place out next mid
+      → WordListed (base + 64 * j) (get_or ws j 0) next mid next₂ after → PartListed ws (j + 1) base place out next₂ after
+  part_turn f j {next = next} x y =
       let r : List ℕ = counted_from base (has ws) (64 * j) in
       let on : next ≡ place + length r = omega (arith, x.told, length_counted base (has ws) (64 * j)) in
       record {
@@ -163,35 +163,99 @@ module _ (ws : List ℕ) (base place : ℕ) (out : List ℕ) where
             ∙ rw (counted_next base ws j, on) (sym (sets_append out r (numbers_in (base + 64 * j) (get_or ws j 0)) place));
       }
 
+-- ---- from one word of a list up to another
+
+-- from a on, where they are the numbers below a and those from there on
+rising-stretch : (s : Plain) (a n : ℕ) → rising s (a + n) ≡ rising s a ++ stretch s a n
+unfolding stretch
+rising-stretch s a n = chain_split _ a n
+
+length-stretch : (s : Plain) (a n : ℕ) → rank s a + length (stretch s a n) ≡ rank s (a + n)
+length-stretch s a n =
+    ap (λ (k : ℕ). k + length (stretch s a n)) (sym (length-rising s a)) ∙ sym (length-append (rising s a) (stretch s a n))
+    ∙ ap length (sym (rising-stretch s a n)) ∙ length-rising s (a + n)
+
+-- one word more
+stretch_next : (ws : List ℕ) (i m : ℕ) → stretch (has ws) (64 * i) (64 * (m + 1)) ≡ stretch (has ws) (64 * i) (64 * m) ++ numbers_in ((i + m) * 64) (get_or ws (i + m) 0)
+unfolding stretch numbers_in counted_from
+stretch_next ws i m =
+    let e : 64 * (m + 1) ≡ 64 * m + 64 = omega arith in
+    let member : ℕ → List ℕ = λ k. cond (has ws (64 * i + k)) ((64 * i + k) ∷ []) [] in
+    ap (chain member) e ∙ chain_split member (64 * m) 64
+    ∙ ap (λ (l : List ℕ). chain member (64 * m) ++ l)
+    (chain_same _ _ 64 (λ k l. ap₂ (λ (t : Bool) (b : ℕ). cond t (b ∷ []) []) (test k l) (same k)))
+  where
+    same : (k : ℕ) → 64 * i + (64 * m + k) ≡ (i + m) * 64 + k
+    same k = omega arith
+
+    back : (t : Bool) → t ≡ eqb (one t) 1
+    back true = refl
+    back false = refl
+
+    test : (k : ℕ) → k < 64 → has ws (64 * i + (64 * m + k)) ≡ eqb (digit (get_or ws (i + m) 0) k) 1
+    test k l =
+        let e : 64 * i + (64 * m + k) ≡ 64 * (i + m) + k = omega arith in
+        ap (has ws) e ∙ back (has ws (64 * (i + m) + k)) ∙ ap (λ (d : ℕ). eqb d 1) (has-digit ws (i + m) k l)
+
+module _ (ws : List ℕ) (i : ℕ) where
+  -- one word more
+  pub listed_turn : Words ws → (j : ℕ) → i ≤ j → (place : ℕ) {next next₂ : ℕ} (out : List ℕ) {mid after : List ℕ} → Listed ws i j place out next mid
+      → WordListed (j * 64) (get_or ws j 0) next mid next₂ after → Listed ws i (j + 1) place out next₂ after
+  listed_turn f j l place {next = next} out {mid = mid} {after = after} x y =
+      let m : ℕ = j - i in
+      let r : List ℕ = stretch (has ws) (64 * i) (64 * m) in
+      let e : j + 1 - i ≡ m + 1 = omega arith in
+      let at : i + m ≡ j = omega arith in
+      let far : 64 * i + 64 * m ≡ 64 * j = omega arith in
+      let on : next ≡ place + length r = omega (arith, x.told, length-stretch (has ws) (64 * i) (64 * m), ap (rank (has ws)) far) in
+      record {
+        told = omega (arith, x.told, y.told, rank_next ws f j);
+        store =
+            y.store ∙ ap (λ (o : List ℕ). sets o next (numbers_in (j * 64) (get_or ws j 0))) x.store
+            ∙ rw (e, stretch_next ws i m, at, on) (sym (sets_append out r (numbers_in (j * 64) (get_or ws j 0)) place));
+      }
+
 -- ---- the front of the store
 
 pub front_length : {ws out₀ : List ℕ} {i next : ℕ} {out : List ℕ} → Front ws out₀ i next out → length out ≡ length out₀
 front_length x = ap length x.store ∙ simp length-sets refl
 
--- those of the words from i on are put after those of the words before
-module _ {ws out₀ : List ℕ} {i next : ℕ} {out part : List ℕ} (p : PartOf ws i part) (x : Front ws out₀ i next out) where
-  split : rising (has ws) (64 * (i + length part)) ≡ rising (has ws) (64 * i) ++ counted_from (64 * i) (has part) (64 * length part)
-  unfolding counted_from
-  split =
-      let e : 64 * (i + length part) ≡ 64 * i + 64 * length part = omega arith in
-      let member : ℕ → List ℕ = λ b. cond (has ws b) (b ∷ []) [] in
-      ap (chain member) e ∙ chain_split member (64 * i) (64 * length part)
-      ∙ ap (λ (l : List ℕ). chain member (64 * i) ++ l)
-      (chain_same _ _ (64 * length part) (λ k l. ap (λ (t : Bool). cond t ((64 * i + k) ∷ []) []) (sym (p.bits k l))))
+-- the words of a part are so listed
+pub part_span : {ws : List ℕ} {i place next : ℕ} {part out after : List ℕ} → PartOf ws i part → PartListed part (length part) (64 * i) place out next after
+    → Listed ws i (i + length part) place out next after
+unfolding counted_from stretch
+part_span {ws} {i} {place} {next} {part} {out} p y =
+    let n : i + length part - i ≡ length part = omega arith in
+    record {
+      told = omega (arith, y.told, part_rank p);
+      store = y.store ∙ ap (sets out place)
+          (chain_same _ _ (64 * length part) (λ k l. ap (λ (t : Bool). cond t ((64 * i + k) ∷ []) []) (p.bits k l))
+          ∙ ap (λ (m : ℕ). stretch (has ws) (64 * i) (64 * m)) (sym n));
+    }
 
-  pub front_on : {next₂ : ℕ} {after : List ℕ} → Listed part (length part) (64 * i) next out next₂ after → Front ws out₀ (i + length part) next₂ after
+-- those of the words from i on are put after those of the words before
+module _ (ws out₀ : List ℕ) (i j next : ℕ) (out : List ℕ) (l : i ≤ j) (x : Front ws out₀ i next out) where
+  abbrev between : List ℕ
+  between = stretch (has ws) (64 * i) (64 * (j - i))
+
+  split : rising (has ws) (64 * j) ≡ rising (has ws) (64 * i) ++ between
+  split =
+      let past : 64 * j ≡ 64 * i + 64 * (j - i) = omega arith in
+      ap (rising (has ws)) past ∙ rising-stretch (has ws) (64 * i) (64 * (j - i))
+
+  pub front_on : {next₂ : ℕ} {after : List ℕ} → Listed ws i j next out next₂ after → Front ws out₀ j next₂ after
   front_on y =
       let r : List ℕ = rising (has ws) (64 * i) in
-      let t : List ℕ = counted_from (64 * i) (has part) (64 * length part) in
       let k : next ≡ 0 + length r = x.told ∙ sym (length-rising (has ws) (64 * i)) ∙ sym (zero-add (length r)) in
-      record { told = omega (arith, x.told, y.told, part_rank p); store = rw (split, sets_append out₀ r t 0, ← k, ← x.store) y.store }
+      record { told = omega (arith, x.told, y.told); store = rw (split, sets_append out₀ r between 0, ← k, ← x.store) y.store }
 
   -- where they have none, nothing is
-  pub front_over : rank (has part) (64 * length part) ≡ 0 → Front ws out₀ (i + length part) next out
+  pub front_over : rank (has ws) (64 * j) ≡ rank (has ws) (64 * i) → Front ws out₀ j next out
   front_over e =
-      let t : List ℕ = counted_from (64 * i) (has part) (64 * length part) in
-      let none : t ≡ [] = empty t (length_counted (64 * i) (has part) (64 * length part) ∙ e) in
-      record { told = omega (arith, x.told, e, part_rank p); store = rw (split, none, append-nil (rising (has ws) (64 * i))) x.store }
+      let whole : length (rising (has ws) (64 * i) ++ between) ≡ length (rising (has ws) (64 * i)) =
+      ap length (sym split) ∙ length-rising (has ws) (64 * j) ∙ e ∙ sym (length-rising (has ws) (64 * i)) in
+      let none : between ≡ [] = empty between (omega (arith, whole, length-append (rising (has ws) (64 * i)) between)) in
+      record { told = x.told ∙ sym e; store = rw (split, none, append-nil (rising (has ws) (64 * i))) x.store }
 
 -- the words at the front of others
 pub front_of_front : (ws : List ℕ) (n : ℕ) {front : List ℕ} → front ≡ take n ws → length front ≡ n → {out₀ : List ℕ} {next : ℕ} {out : List ℕ}

@@ -89,3 +89,11 @@ module _ (capacity : ℕ) (ws : List ℕ) (s : sound capacity ws ≡ true) where
 
   pub all_clear : (clear : Bool) → clear ≡ eqb (rank (has ws) (64 * words_for capacity)) 0 → answered (one clear) untouched ≡ is_empty_call capacity ws
   all_clear clear e = rw s (ap (λ (t : Bool). answered (one t) untouched) (e ∙ ap (λ (k : ℕ). eqb k 0) (set_size capacity ws s)))
+
+-- where no bit is set between two places of the words, there are as many before the one as before the other
+pub none_between : (ws : List ℕ) (start end : ℕ) → start ≤ end → {any : Bool} → any ≡ ltb (rank (has ws) (64 * start)) (rank (has ws) (64 * end)) → any ≡ false
+    → rank (has ws) (64 * end) ≡ rank (has ws) (64 * start)
+none_between ws start end l e n =
+    let before : ℕ = rank (has ws) (64 * start) in
+    let after : ℕ = rank (has ws) (64 * end) in
+    omega (arith, sum_mono (λ p. one (has ws p)) {m = 64 * start} {n = 64 * end} (omega arith), ltb-false before after (sym e ∙ n))

@@ -5,7 +5,7 @@ ghost use Rattle.bounds.specs.Bounds.{max_bits};
 ghost use Rattle.laws.specs.Counting.{rank};
 ghost use Rattle.laws.specs.Bits.{words_for, has};
 ghost use Rattle.bitvector.specs.Sets.{same_below};
-ghost use Rattle.bitvector.specs.Steps.{WordListed, Listed, Front, Joined};
+ghost use Rattle.bitvector.specs.Steps.{WordListed, PartListed, Front, Joined};
 
 use words::{count_ones, u64s};
 
@@ -63,7 +63,7 @@ pub(crate) fn has_at_most(words: &[u64], most: usize) -> bool
     words.len() <= most / 64 || count_sparse(words) <= most as u64
 }
 
-// The word's set bits, counted from `base` on, rising, to `out` from `place` on; the place after them.
+// The word's set bits, counted from `base` on, rising, to `out` from `place` on; the place after them. A `while`: a word's bits have no iterator in the library.
 fn list_word(word: u64, base: u64, out: &mut [u64], place: usize) -> usize
     requires { (base ≤ max_bits) × (place + ones word ≤ length out.old) }
     ensures { WordListed base word place out.old result out.new }
@@ -82,7 +82,7 @@ fn list_word(word: u64, base: u64, out: &mut [u64], place: usize) -> usize
 fn list_words(words: &[u64], base: u64, out: &mut [u64], place: usize) -> usize
     requires words_fit { base + 64 * length words.now ≤ max_bits }
     requires out_fits { place + rank (has words.now) (64 * length words.now) ≤ length out.old }
-    ensures { Listed words.now (length words.now) base place out.old result out.new }
+    ensures { PartListed words.now (length words.now) base place out.old result out.new }
 {
     let mut next = place;
     for (i, word) in words.iter().enumerate() {

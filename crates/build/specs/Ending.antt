@@ -15,10 +15,10 @@ prepared ids s = stores (zeros (length s.words)) (zeros (length s.samples)) (zer
 abbrev pub cleared_rest : Stores → Stores
 cleared_rest s = stores s.words s.samples s.collide (zeros (length s.rest))
 
-abbrev pub cleared_index : Stores → Stores
-cleared_index s = stores (zeros (length s.words)) (zeros (length s.samples)) s.collide (zeros (length s.rest))
+abbrev pub cleared_run : Stores → Stores
+cleared_run s = stores (zeros (length s.words)) (zeros (length s.samples)) s.collide (zeros (length s.rest))
 
 -- what a run by the kind of this number, over so many ids, leaves of the stores that it ended with: the rest store is 0, and after a refused run words and samples are 0 too
 abbrev pub after_run : Result ℕ Refusal → ℕ → ℕ → List ℕ → Stores → BuildEnd
 after_run (Ok n) number count sizes s = answered 0 (build_after (record { kind = number; count = count; levels = n; sizes = sizes }) (cleared_rest s))
-after_run (Err why) number count sizes s = refused (build_after no_head (cleared_index s)) why
+after_run (Err why) number count sizes s = refused (build_after no_head (cleared_run s)) why

@@ -24,7 +24,7 @@ const OUT: usize = HEAD + 1;
 // What the stores hold before a build.
 const USED: u64 = 7;
 
-// The answer of a build that is done.
+// The calls for hosts answer numbers. That of a build that is done.
 const DONE: u64 = 0;
 
 // The answer of refusal 6, which gives how many ids remain.

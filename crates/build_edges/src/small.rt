@@ -1,4 +1,7 @@
 // Builds in small stores, for the lines that go on with what they made.
+ghost use Rattle.std.specs.Prelude.{◌≡◌, MatchResult};
+ghost use Rattle.head.specs.Index.{no_head};
+
 use head::Head;
 use refusal::Refusal;
 
@@ -31,7 +34,9 @@ impl Small {
     }
 
     // The head, or that of zeros where the build is refused.
-    pub fn head(&self) -> Head {
+    pub fn head(&self) -> Head
+        ensures { MatchResult self.now.built (λ head. result ≡ head) (λ refusal. result ≡ no_head) }
+    {
         self.built.unwrap_or(Head::none())
     }
 }

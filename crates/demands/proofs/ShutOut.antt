@@ -19,7 +19,7 @@ use Rattle.mixer.specs.declared.Kind.{Kind}
 use Rattle.mixer.specs.declared.Kind.TheVariants.{Plain}
 use Rattle.mixer.specs.Position.{position}
 use Rattle.run.specs.Stores.{Stores}
-use Rattle.build.specs.Build.{built_of, cleared, build_call}
+use Rattle.build.specs.Build.{BuildEnd, built_of, cleared, build_call}
 use Rattle.head.specs.Index.{no_head}
 use Rattle.finding.specs.Find.{found, answer_of}
 use Rattle.lookup.specs.Lookup.{lookup_call}
@@ -35,11 +35,6 @@ use Rattle.demands.proofs.Twice.{twice_left, twice_full}
 
 -- ---- builds, at three ids of which two share their position in level 0
 
--- the id count of the head that is answered
-abbrev count_in : Result Head Refusal → ℕ
-count_in (Ok head) = head.count
-count_in (Err why) = 0
-
 module _ (a : Result Head Refusal) (t : Stores) (meets : built_of a t ≡ build_call 0 two three lent_three) where
   -- the whole outcome is decided
   pub three_only : (a ≡ three_built) × (t ≡ three_left)
@@ -53,9 +48,9 @@ module _ (a : Result Head Refusal) (t : Stores) (meets : built_of a t ≡ build_
       omega arith
 
   -- one that returns an empty head
-  pub not_empty : a ≡ Ok no_head → ⊥
+  pub not_empty : (built_of a t).after.head ≡ no_head → ⊥
   not_empty e =
-      let z : ◌≡◌ {A = ℕ} 0 3 = ap count_in (sym e ∙ three_only.0) in
+      let z : ◌≡◌ {A = ℕ} 0 3 = ap (λ (h : Head). h.count) (sym e) ∙ ap (λ (x : BuildEnd). x.after.head.count) (meets ∙ sym three_built_lem) in
       omega arith
 
   -- one that writes nothing

@@ -96,6 +96,7 @@ impl Head {
     }
 }
 
+// Whether each of the sizes is 0. A function, since its promise is of the part alone.
 fn all_0(sizes: &[u64]) -> bool
     ensures { IsTrue result ↔ All (λ size. size ≡ 0) sizes.now }
 {

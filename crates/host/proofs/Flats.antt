@@ -88,15 +88,6 @@ place_written p place h e =
 
 -- ---- a build
 
--- the value is written to the front, the head's numbers to the part after it
-front_written : (value : ℕ) (ns out : List ℕ) → 0 < length out → set (take 1 out ++ fronted ns (drop 1 out)) 0 value ≡ fronted (value ∷ ns) out
-front_written value ns [] h = absurd (omega arith)
-front_written value ns (v ∷ out) h = refl
-
-pub out_written : (value : ℕ) (ns out : List ℕ) → 0 < length out → {part : List ℕ} → part ≡ fronted ns (take (length out - 1) (drop 1 out))
-    → set (take 1 out ++ (part ++ drop (length out - 1) (drop 1 out))) 0 value ≡ fronted (value ∷ ns) out
-out_written value ns out h e = ap (λ (l : List ℕ). set l 0 value) (lent_from (fronted ns) 1 out e) ∙ front_written value ns out h
-
 made_end : (answer : Result Head Refusal) (s : Stores) (out : List ℕ)
     → seen (of_made answer) (flat_built s (fronted (value_in answer ∷ numbers_of (head_made answer)) out)) ≡ end_seen (built_of answer s) out
 made_end (Ok head) s out = refl

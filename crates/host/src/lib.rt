@@ -1,4 +1,5 @@
-// The calls for hosts, which `host_c` exports. Every result is one number: a value, 2^64 - 1 for none, 2^64 - 1 - r for refusal r.
+// The calls for hosts, which `host_c` exports. Every result is one number: a value, 2^64 - 1 for none, 2^64 - 1 - r for refusal r. C and Rust lend each store by itself,
+// so that the stores stay parameters of their own, here and in the calls behind.
 #![tactic(auto)]
 
 mod answer;

@@ -1,10 +1,13 @@
 // The words of an image by their places, of which nothing is asked: past the end a word is 0, and nothing is written there.
-use block::{BLOCK_BYTES, CHECK_PLACE, check_step, put_word};
+use block::{BLOCK_BYTES, CHECK_PLACE, check_step, put_word, word_at};
 use std::fmt;
 
 pub fn word(image: &[u8], place: usize) -> u64 {
-    let (words, _) = image.as_chunks::<8>();
-    words.get(place).map_or(0, |word| u64::from_le_bytes(*word))
+    if place < image.len() / 8 {
+        word_at(image, place)
+    } else {
+        0
+    }
 }
 
 pub fn put(image: &mut [u8], place: usize, word: u64) {

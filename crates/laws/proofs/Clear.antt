@@ -11,7 +11,7 @@ use Rattle.std.specs.List.{All}
 use Rattle.std.proofs.lemmas.List.{get_or-drop, length-drop}
 use Rattle.std.proofs.lemmas.List.Elements.{All-get_or, All-from_get_or}
 use Rattle.laws.specs.Counting.{is_clear}
-use Rattle.laws.proofs.Cases.{Tri, lt, eq, gt, tri, refuted}
+use Rattle.laws.proofs.Cases.{refuted}
 use Rattle.laws.proofs.Sums.{rank_none, none_rank}
 
 module _ (f : ℕ → ℕ) (from to : ℕ) where

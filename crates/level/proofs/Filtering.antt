@@ -76,9 +76,6 @@ module _ (g : ℕ → ℕ) (size : ℕ) (within : (id : ℕ) → g id < size) (c
 
 -- ---- the loop, after the first i ids of the rest store
 
-pub filter_none : (g : ℕ → ℕ) (collide ws store : List ℕ) → Filtered g collide 0 ws store 0 ws store
-filter_none g collide ws store = record { words_are = refl; store_is = refl; count_is = refl }
-
 module _ {g : ℕ → ℕ} {collide ws store : List ℕ} {i kept : ℕ} {ws₁ store₁ : List ℕ} (t : Filtered g collide i ws store kept ws₁ store₁) where
   pub kept_le : i ≤ length store → kept ≤ i
   kept_le h =

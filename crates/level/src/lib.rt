@@ -1,6 +1,7 @@
 // One level of a build (boomphf's `Context`): the ids that come to it are marked, then those whose position is shared are filtered out and go
 // on. It works in lent words that start at the level and in the first words of collide. An id's bit is its position among the `size` bits of the level.
-// Words and collide stay two parameters: a struct of both would be no plainer, since each promise would also have to say that its slices are the same ones.
+// Words and collide stay two parameters, and that they have room a clause: a struct of both would be no plainer, since each promise would also have to say that its
+// slices are the same ones.
 #![tactic(auto)]
 
 ghost use Rattle.std.specs.Prelude.{◌≡◌, ◌≤◌, ◌<◌, length};

@@ -27,7 +27,8 @@ impl fmt::Display for Fault {
 // No list has more cases.
 const MOST_CASES: u64 = 1_000_000;
 
-// How many cases a list has, each of which holds. A case is lent a copy of its line too, which its calls may write to.
+// How many cases a list has, each of which holds. A case is lent a copy of its line too, which its calls may write to. Lines are counted, since the number of one that
+// does not hold is the answer.
 pub fn compare<R: Read + Drop, F: Fn(Line<'_>, &mut [u64]) -> bool>(
     list: &mut List<R>,
     holds: F,

@@ -1,2 +1,3 @@
 -- What only serves inner contracts.
+pub mod Line
 pub mod Lines

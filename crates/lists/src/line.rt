@@ -1,6 +1,6 @@
 // The numbers of a line, by their places. No place is out of range: a line that says too much of itself has zeros there, or parts with nothing in them, and its
 // case does not hold.
-ghost use Rattle.std.specs.Prelude.{◌≤◌, length};
+ghost use Rattle.std.specs.Prelude.{◌≡◌, ◌+◌, ◌<◌, ◌≤◌, [], length, take, drop};
 ghost use Rattle.lists.specs.Lines.{most};
 
 // No line has more numbers: `most` in specs/Lines.antt.
@@ -18,8 +18,13 @@ pub struct Line<'a> {
 }
 
 impl<'a> Line<'a> {
+    ghost use Rattle.lists.specs.Line.{lent_by, count_of, number_at};
+
     // The line that has so many numbers, at the front of this store.
-    pub fn new(store: &'a [u64; MOST], len: usize) -> Line<'a> {
+    pub fn new(store: &'a [u64; MOST], len: usize) -> Line<'a>
+        ensures own { count_of result ≡ len }
+        ensures lent { lent_by result ≡ take (len + PAST) store.now }
+    {
         let end = len.saturating_add(PAST).min(MOST);
         Line {
             len,
@@ -27,12 +32,17 @@ impl<'a> Line<'a> {
         }
     }
 
-    pub fn len(self) -> usize {
+    pub fn len(self) -> usize
+        ensures { result ≡ count_of self.entry }
+    {
         self.len
     }
 
     // The number at a place; 0 past the end.
-    pub fn number(self, at: usize) -> u64 {
+    #[tactic(auto, unfolding(crate::specs::Line::number_at))]
+    pub fn number(self, at: usize) -> u64
+        ensures { result ≡ number_at self.entry at }
+    {
         self.lent.get(at).copied().unwrap_or(0)
     }
 
@@ -44,17 +54,25 @@ impl<'a> Line<'a> {
     }
 
     // n numbers from a place on; none, where there are fewer.
-    pub fn part(self, at: usize, n: usize) -> &'a [u64] {
+    pub fn part(self, at: usize, n: usize) -> &'a [u64]
+        ensures whole { at + n ≤ length (lent_by self.entry)
+            → result.now ≡ take n (drop at (lent_by self.entry)) }
+        ensures none { length (lent_by self.entry) < at + n → result.now ≡ [] }
+    {
         self.past(at).get(..n).unwrap_or(&[])
     }
 
     // The numbers from a place on; none, where there are fewer.
-    pub fn past(self, at: usize) -> &'a [u64] {
+    pub fn past(self, at: usize) -> &'a [u64]
+        ensures { result.now ≡ drop at (lent_by self.entry) }
+    {
         self.lent.get(at..).unwrap_or(&[])
     }
 
     // A copy of the line, and of what is lent past it, at the front of a store.
-    pub fn copy_to(self, store: &mut [u64; MOST]) -> &mut [u64] {
+    pub fn copy_to(self, store: &mut [u64; MOST]) -> &mut [u64]
+        ensures { result.now ≡ lent_by self.entry }
+    {
         let n = self.lent.len();
         let copy = &mut store[..n];
         copy.copy_from_slice(self.lent);

@@ -1,13 +1,16 @@
 // Cases of lookups: what the numbers of a line are, and whether the lookup for hosts answers as it says.
 #![tactic(auto)]
 
+ghost use Rattle.std.specs.Prelude.{◌≡◌, ◌+◌, ◌-◌, ◌<◌, [], ◌∷◌, ◌++◌, length, replicate, MatchOption};
+
 use head::NUMBERS;
 use host::shawltide_lookup;
 use lists::line::Line;
 
-// How many numbers a head is, and the kind that it has here.
+// How many numbers a head is.
 pub const HEAD: usize = NUMBERS;
 
+// The kind of the heads here, as the calls for hosts take it: by its number.
 pub const PLAIN: u64 = 0;
 
 // An index, as the calls for hosts take it.
@@ -50,11 +53,18 @@ pub fn lookup(line: Line<'_>) -> bool {
 }
 
 // The head of the plain kind with so many ids and these level sizes: kind, id count, level count and sizes, and 0 past them; none, where it has no room for them.
-pub fn head(ids: u64, sizes: &[u64]) -> Option<[u64; HEAD]> {
+pub fn head(ids: u64, sizes: &[u64]) -> Option<[u64; HEAD]>
+    ensures { MatchOption result (HEAD < 3 + length sizes.now)
+        (λ numbers. numbers ≡ (PLAIN ∷ ids ∷ length sizes.now ∷ []) ++ sizes.now
+        ++ replicate (HEAD - (3 + length sizes.now)) 0) }
+{
+    if sizes.len() > HEAD - 3 {
+        return None;
+    }
     let mut head = [0; HEAD];
     head[0] = PLAIN;
     head[1] = ids;
     head[2] = sizes.len() as u64;
-    head[3..].get_mut(..sizes.len())?.copy_from_slice(sizes);
+    head[3..3 + sizes.len()].copy_from_slice(sizes);
     Some(head)
 }

@@ -1,4 +1,7 @@
 // An index as a line asks it: of its head and its stores nothing is known.
+ghost use Rattle.std.specs.Prelude.{◌≡◌, MatchResult};
+ghost use Rattle.head.specs.Index.{no_head};
+
 use build_edges::Small;
 use head::Head;
 use std::{fmt, io};
@@ -13,7 +16,12 @@ pub struct Stored<'a> {
 }
 
 impl<'a> Stored<'a> {
-    pub fn of(built: &'a Small) -> Stored<'a> {
+    pub fn of(built: &'a Small) -> Stored<'a>
+        ensures head { MatchResult built.now.built (λ head. result.head ≡ head)
+            (λ refusal. result.head ≡ no_head) }
+        ensures words { result.words.now ≡ built.now.words }
+        ensures samples { result.samples.now ≡ built.now.samples }
+    {
         Stored {
             head: built.head(),
             words: &built.words,

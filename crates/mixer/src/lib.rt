@@ -1,4 +1,4 @@
-// From an id to its position among the bits of a level : the kinds of hash, the plain mixer, which is the public SplitMix64 step, the seed word
+// From an id to its position among the bits of a level: the kinds of hash, the plain mixer, which is the public SplitMix64 step, the seed word
 // of a level, and the position of the folded hash. The names are boomphf's where it has one.
 #![tactic(auto)]
 

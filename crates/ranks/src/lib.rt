@@ -19,7 +19,8 @@ pub fn part(store: &[u64], at: usize, n: usize) -> &[u64]
     &store[at..at + n]
 }
 
-// Writes a level's samples to the front of the store, from its words and the number of set bits before it; the set bits up to and with this level.
+// Writes a level's samples to the front of the store, from its words and the number of set bits before it; the set bits up to and with this level. Samples go by
+// their number: of places lent by `iter_mut` under a `zip` no proof knows what is written.
 pub fn sample_level(words: &[u64], before: u64, samples: &mut [u64]) -> u64
     requires samples_fit { samples_for (length words.now) ≤ length samples.old }
     requires ones_fit { before + 64 * length words.now < 2 ^ 64 }

@@ -1,4 +1,5 @@
-// The row list: at each row the id that lookup sends there.
+// The row list: at each row the id that lookup sends there. That rows and marks have room stays a clause of each step: of a struct with them each promise would also
+// have to say that its slices are the same ones.
 #![tactic(auto)]
 
 ghost use Rattle.std.specs.Prelude.{◌≡◌, ◌≤◌, ◌<◌, length, MatchOption, IfSome};
@@ -55,7 +56,8 @@ fn list_rows(index: &Index, ids: &[u64], rows: &mut [u64], marks: &mut [u64]) ->
     Ok(())
 }
 
-// Whether every id has a row and no two share one, by marks that are clear at first.
+// Whether every id has a row and no two share one, by marks that are clear at first. A `for`, not `all`: of a closure that changes the marks no proof knows what it
+// answered.
 fn are_apart(index: &Index, ids: &[u64], marks: &mut [u64]) -> bool
     requires marks_fit { words_for index.now.head.now.count ≤ length marks.old }
     requires unmarked { Unmarked index.now.head.now.count marks.old }

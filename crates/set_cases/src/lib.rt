@@ -19,11 +19,7 @@ const LARGEST: u64 = 4096;
 fn words(capacity: u64) -> usize
     ensures { result ≤ 65 }
 {
-    if capacity > LARGEST {
-        65
-    } else {
-        words::u64s(capacity) as usize
-    }
+    words::u64s(capacity.min(LARGEST + 1)) as usize
 }
 
 // Whether a call that reads a set, whose words start at this place of the line, gave the answer that stands before them.

@@ -42,9 +42,9 @@ impl<T: Tell> fmt::Display for Told<T> {
 pub fn answer<T: Tell + Copy>(
     rt: &impl Print,
     name: impl fmt::Display + Drop,
-    answer: Result<T, Refusal>,
+    told: Result<T, Refusal>,
 ) -> io::Result<()> {
-    println!(rt; "{name}: {}", Told(answer))
+    println!(rt; "{name}: {}", Told(told))
 }
 
 // Numbers, each behind a space.

@@ -8,8 +8,8 @@ use Rattle.laws.specs.Counting.{one}
 use Rattle.laws.specs.Bits.{has}
 use Rattle.laws.proofs.Sums.{sum_mono}
 use Rattle.bitvector.proofs.Sizes.{none_there}
-use Rattle.bitvector.proofs.Fronts.{group_at, grouped, rest_part, past_groups}
-use Rattle.bitvector.proofs.Rising.{front_length, front_on, front_over}
+use Rattle.bitvector.proofs.Fronts.{part_rank, group_at, grouped, rest_part, past_groups}
+use Rattle.bitvector.proofs.Rising.{front_length, part_span, front_on, front_over}
 use Rattle.bitvector.proofs.steps.list_bits.Goals as goal
 use Rattle.bitvector.proofs.steps.list_bits.Goals.{then-any_bit, else-any_bit}
 
@@ -27,8 +27,8 @@ loop-g-preserved c =
     let end : (l.g + 1) * 8 ≡ l.g * 8 + length (get_or c.as_chunks.result.0.now l.g []) = omega (arith, x.eight) in
     rw end
     (elim c.if-any_bit.branch [
-      | then-any_bit w ↦ rw (w.next-is, w.out-is) (front_on x.part l.invariant w.list_words-next.ensures)
-      | else-any_bit w ↦ rw (w.next-is, w.out-is) (front_over x.part l.invariant (none_there _ c.any_bit.ensures w.if-any_bit.false))
+      | then-any_bit w ↦ rw (w.next-is, w.out-is) (front_on _ _ _ _ _ _ (omega arith) l.invariant (part_span x.part w.list_words-next.ensures))
+      | else-any_bit w ↦ rw (w.next-is, w.out-is) (front_over _ _ _ _ _ _ (omega arith) l.invariant (omega (arith, part_rank x.part, none_there _ c.any_bit.ensures w.if-any_bit.false)))
     ])
 
 pub list_words-requires-clause-out_fits : goal.list_words-requires-clause-out_fits
@@ -43,4 +43,4 @@ returns c =
     let all : length c.as_chunks.result.0.now ≡ g = omega arith in
     let past : length ws / 8 ≡ g = omega arith in
     let end : length ws ≡ g * 8 + length c.as_chunks.result.1.now = omega arith in
-    rw end (front_on (rest_part ws (g * 8) (rw past at c.as_chunks.ensures.back)) c.loop-g.invariant (rw all at c.list_words.ensures))
+    rw end (front_on _ _ _ _ _ _ (omega arith) c.loop-g.invariant (part_span (rest_part ws (g * 8) (rw past at c.as_chunks.ensures.back)) (rw all at c.list_words.ensures)))
