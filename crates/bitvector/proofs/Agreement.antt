@@ -15,7 +15,7 @@ use Rattle.laws.specs.Bits.{digit, has, Words, words_for, number, word_of}
 use Rattle.laws.proofs.Cases.{one_inj, eqb_both, both, refuted}
 use Rattle.laws.proofs.Sums.{sum_split, sum_same, rank_same, rank_none, none_rank}
 use Rattle.laws.proofs.Digits.{number-digit, shl_same}
-use Rattle.laws.proofs.Packing.{number-has, packed_below, packed-take}
+use Rattle.laws.proofs.Packing.{number-has, packed_below, packed-take, word_has}
 use Rattle.bitvector.specs.Sets.{Plain, same_below, set_of}
 use Rattle.refusal.specs.Answers.{answered, untouched}
 use Rattle.bitvector.specs.Calls.{sound, eq_left_call}
@@ -84,6 +84,23 @@ same_both s t u v n e f =
 
 abbrev same_bits : List ℕ → List ℕ → ℕ → Bool
 same_bits ws us n = same_below (has ws) (has us) n
+
+module _ (ws us : List ℕ) (i : ℕ) (hw : get_or ws i 0 < 2 ^ 64) (hu : get_or us i 0 < 2 ^ 64) where
+  words_next : same_bits ws us (64 * (i + 1)) ≡ same_bits ws us (64 * i) && eqb (get_or ws i 0) (get_or us i 0)
+  words_next = same_next (has ws) (has us) i ∙ ap₂ (λ (x y : ℕ). same_bits ws us (64 * i) && eqb x y) (word_has ws i hw) (word_has us i hu)
+
+  -- equal words, and all is the same so far
+  pub still_same : same_bits ws us (64 * i) ≡ true → get_or ws i 0 ≡ get_or us i 0 → same_bits ws us (64 * (i + 1)) ≡ true
+  still_same e q = words_next ∙ ap₂ ◌&&◌ e (eq-eqb _ _ q)
+
+  -- the first words that differ decide
+  pub no_more : (n : ℕ) → 64 * (i + 1) ≤ n → same_bits ws us (64 * i) ≡ true → (get_or ws i 0 ≡ get_or us i 0 → ⊥) → same_bits ws us n ≡ false
+  no_more n l e q =
+      let k : ℕ = 64 * (i + 1) in
+      let f : same_bits ws us k ≡ false = words_next ∙ ap₂ ◌&&◌ e (ne_eqb _ _ q) in
+      let m : n ≡ k + (n - k) = omega arith in
+      ap (same_bits ws us) m ∙ same_range (has ws) (has us) k (n - k)
+      ∙ ap (λ (b : Bool). b && same_below (λ j. has ws (k + j)) (λ j. has us (k + j)) (n - k)) f
 
 -- the words before one are the same exactly if their bits are
 same_fronts : (ws us : List ℕ) (n : ℕ) → take n ws ≡ take n us → same_bits ws us (64 * n) ≡ true

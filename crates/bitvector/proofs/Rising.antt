@@ -198,6 +198,13 @@ stretch_next ws i m =
         ap (has ws) e ∙ back (has ws (64 * (i + m) + k)) ∙ ap (λ (d : ℕ). eqb d 1) (has-digit ws (i + m) k l)
 
 module _ (ws : List ℕ) (i : ℕ) where
+  -- no word
+  pub listed_none : (place : ℕ) (out : List ℕ) → Listed ws i i place out place out
+  unfolding stretch
+  listed_none place out =
+      let e : i - i ≡ 0 = omega arith in
+      record { told = refl; store = rw e }
+
   -- one word more
   pub listed_turn : Words ws → (j : ℕ) → i ≤ j → (place : ℕ) {next next₂ : ℕ} (out : List ℕ) {mid after : List ℕ} → Listed ws i j place out next mid
       → WordListed (j * 64) (get_or ws j 0) next mid next₂ after → Listed ws i (j + 1) place out next₂ after
@@ -216,6 +223,9 @@ module _ (ws : List ℕ) (i : ℕ) where
       }
 
 -- ---- the front of the store
+
+pub front_none : (ws out₀ : List ℕ) → Front ws out₀ 0 0 out₀
+front_none ws out₀ = record { told = refl; store = refl }
 
 pub front_length : {ws out₀ : List ℕ} {i next : ℕ} {out : List ℕ} → Front ws out₀ i next out → length out ≡ length out₀
 front_length x = ap length x.store ∙ simp length-sets refl

@@ -1,12 +1,14 @@
 -- Counting the bits word by word: what `len` and `is_empty` find out, and whether words have any. Assumes nothing.
 use mathlib.Core.Path.{◌≡◌, refl, sym, ap, ap₂, ◌∙◌}
 use mathlib.Core.Bool.{Bool, true, false, not, ◌&&◌, and-true}
+use mathlib.Core.Logic.{◌≢◌}
 use mathlib.Core.List.{List, [], ◌∷◌}
 use Prim.Native.Nat.{ℕ, zero, suc, ◌+◌, ◌*◌, ◌≤◌, ◌<◌}
 use native.Mathlib.Nat.{le_refl}
 use native.Mathlib.Numerals.{add-one}
+use native.Mathlib.Decide.{ℕ_discrete}
 use native.Mathlib.Omega.{arith}
-use borrow.Author.Tests.{ne_eqb, lt-ltb, ltb-false}
+use borrow.Author.Tests.{eq-eqb, ne_eqb, lt-ltb, le-ltb, ltb-false}
 use lib.Bits.{bit_or, or_add_and, and_le_l, and_le_r}
 use lib.Count.{ones}
 use lib.Dec.{eqb, ltb}
@@ -89,6 +91,47 @@ module _ (capacity : ℕ) (ws : List ℕ) (s : sound capacity ws ≡ true) where
 
   pub all_clear : (clear : Bool) → clear ≡ eqb (rank (has ws) (64 * words_for capacity)) 0 → answered (one clear) untouched ≡ is_empty_call capacity ws
   all_clear clear e = rw s (ap (λ (t : Bool). answered (one t) untouched) (e ∙ ap (λ (k : ℕ). eqb k 0) (set_size capacity ws s)))
+
+-- ---- some words in between
+
+-- what the `|` of the words from `start` on and before i tells of their bits
+pub record Gathered (ws : List ℕ) (start i all : ℕ) : Type 0 where
+  pub none : all ≡ 0 → rank (has ws) (64 * i) ≡ rank (has ws) (64 * start)
+  pub some : all ≢ 0 → rank (has ws) (64 * start) < rank (has ws) (64 * i)
+
+pub gathered_none : (ws : List ℕ) (start : ℕ) → Gathered ws start start 0
+gathered_none ws start = record { none = λ e. refl; some = λ n. absurd (n refl) }
+
+-- one word more
+pub gathered_next : (ws : List ℕ) → Words ws → (start i all : ℕ) → Gathered ws start i all → Gathered ws start (i + 1) (bit_or all (get_or ws i 0))
+gathered_next ws f start i all g =
+    let w : ℕ = get_or ws i 0 in
+    let more = rank_next ws f i in
+    let or = or_add_and all w in
+    record {
+      none = λ e. omega (arith, more, g.none (omega (arith, e, or, and_le_r all w)), ones-zero w (omega (arith, e, or, and_le_l all w)));
+      some = λ n. elim (ℕ_discrete all 0) [
+        | no m ↦ omega (arith, more, g.some m)
+        | yes z ↦ omega (arith, more, g.none z, new (λ e. n (rw (z, e))))
+      ];
+    }
+  where
+    new : get_or ws i 0 ≢ 0 → 0 < ones (get_or ws i 0)
+    new n = elim (ℕ_discrete (ones (get_or ws i 0)) 0) [
+      | no m ↦ omega arith
+      | yes z ↦ absurd (n (ones_none (get_or ws i 0) z))
+    ]
+
+-- in the end that is whether there are any
+pub gathered : (ws : List ℕ) (start end all : ℕ) → Gathered ws start end all
+    → not (eqb all 0) ≡ ltb (rank (has ws) (64 * start)) (rank (has ws) (64 * end))
+gathered ws start end all g =
+    let before : ℕ = rank (has ws) (64 * start) in
+    let after : ℕ = rank (has ws) (64 * end) in
+    elim (ℕ_discrete all 0) [
+      | no n ↦ rw (ne_eqb all 0 n, lt-ltb before after (g.some n))
+      | yes e ↦ rw (eq-eqb all 0 e, le-ltb before after (omega (arith, g.none e)))
+    ]
 
 -- where no bit is set between two places of the words, there are as many before the one as before the other
 pub none_between : (ws : List ℕ) (start end : ℕ) → start ≤ end → {any : Bool} → any ≡ ltb (rank (has ws) (64 * start)) (rank (has ws) (64 * end)) → any ≡ false

@@ -7,7 +7,7 @@ use lib.ListN.{length, length-append, take-append-drop}
 use Rattle.laws.specs.Counting.{each}
 use Rattle.laws.specs.Stores.{pasted}
 use Rattle.laws.proofs.Chains.{length-each}
-use Rattle.laws.proofs.Parts.{pasted_more}
+use Rattle.laws.proofs.Parts.{length-pasted, pasted_more}
 use Rattle.block.specs.Bytes.{word_bytes, bytes_of, all_bytes}
 use Rattle.block.specs.Block.{block_words, block_content, check_of, checked_words, block_of, image_words}
 
@@ -36,6 +36,9 @@ unfolding all_bytes
 written_none bytes j = take-append-drop (word_bytes * j) bytes
 
 module _ (bytes : List ℕ) (j : ℕ) (us : List ℕ) where
+  pub length_written : word_bytes * (j + length us) ≤ length bytes → length (written j us bytes) ≡ length bytes
+  length_written h = length-pasted (word_bytes * j) (all_bytes us) bytes (omega (arith, length_all_bytes us))
+
   -- words behind those that were written before
   pub written_more : (at : ℕ) (vs now next : List ℕ) → at ≡ j + length us → word_bytes * (at + length vs) ≤ length bytes
       → now ≡ written j us bytes → next ≡ written at vs now → next ≡ written j (us ++ vs) bytes

@@ -1,10 +1,10 @@
 -- The checks of a build, and what it leaves with and without a run. Assumes nothing.
 use mathlib.Core.Path.{◌≡◌, refl, ap, subst, ◌∙◌}
 use mathlib.Core.Bool.{true, false}
-use mathlib.Core.List.{List}
+use mathlib.Core.List.{List, ◌++◌}
 use Prim.Native.Nat.{ℕ, ◌≤◌}
 use lib.Ieee.{Float}
-use lib.ListN.{length, take, drop, length-append, length-drop, length-replicate}
+use lib.ListN.{length, take, drop, replicate, length-append, length-drop, length-replicate}
 use lib.Seq.{take_at}
 use native.Mathlib.Omega.{arith}
 use borrow.Author.Tests.{le-leb, leb-true, not-true}
@@ -12,13 +12,14 @@ use Rattle.std.specs.Prelude.{Result, Ok, Err}
 use Rattle.bounds.specs.Bounds.{max_ids, level_limit, head_sizes}
 use Rattle.laws.specs.Bits.{words_for}
 use Rattle.laws.proofs.Cases.{both}
+use Rattle.laws.proofs.Parts.{filled_whole}
 use Rattle.refusal.specs.Answers.{refused}
 use Rattle.refusal.specs.declared.Refusal.{Refusal}
 use Rattle.laws.specs.Stores.{fronted, zeros}
 use Rattle.rule.specs.Rule.{RunEnd, built, no_room, ids_left, run}
 use Rattle.sizes.specs.Gamma.{above_min, above_max, Allowed}
 use Rattle.sizes.specs.Sizes.{size_for}
-use Rattle.run.specs.Stores.{Stores}
+use Rattle.run.specs.Stores.{Stores, stores}
 use Rattle.build.specs.Build.{build_after, build_checks, ended, build_call}
 use Rattle.refusal.proofs.Passed.{ok_passed}
 use Rattle.mixer.specs.Kinds.{kind_of}
@@ -35,6 +36,14 @@ pub checked : (gamma : Float) (n collide rest : ℕ) → above_min gamma ≡ tru
 unfolding build_checks
 checked gamma n collide rest a b few in_rest h =
     rw (a, b, le-leb n max_ids few, le-leb n rest in_rest, le-leb (words_for (size_for gamma n)) collide h)
+
+-- ---- the stores that a run begins with
+
+pub prepared_is : (ids : List ℕ) (s : Stores) {ws ss cs rs : List ℕ}
+    → ws ≡ replicate (length s.words) 0 ++ drop (length s.words) s.words
+    → ss ≡ replicate (length s.samples) 0 ++ drop (length s.samples) s.samples
+    → cs ≡ replicate (length s.collide) 0 ++ drop (length s.collide) s.collide → rs ≡ fronted ids s.rest → stores ws ss cs rs ≡ prepared ids s
+prepared_is ids s p q u v = rw (p ∙ filled_whole s.words 0, q ∙ filled_whole s.samples 0, u ∙ filled_whole s.collide 0, v)
 
 -- ---- a build that passes the checks
 

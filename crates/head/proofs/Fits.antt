@@ -136,6 +136,16 @@ pub record Walk (sizes : List ℕ) (i words sampled : ℕ) : Type 0 where
   pub words_few : words ≤ words_for max_bits * i
   pub samples_few : sampled ≤ words_for max_bits * i
 
+pub walk_none : (sizes : List ℕ) → Walk sizes 0 0 0
+walk_none sizes = record {
+  least = λ j h. absurd (omega arith);
+  most = λ j h. absurd (omega arith);
+  words_are = refl;
+  samples_are = refl;
+  words_few = omega arith;
+  samples_few = omega arith;
+}
+
 pub walk_more : (sizes : List ℕ) (i words sampled more taken : ℕ) → Walk sizes i words sampled → min_bits ≤ size_at sizes i → size_at sizes i ≤ max_bits
     → more ≡ words_for (size_at sizes i) → taken ≡ samples_of_size (size_at sizes i) → Walk sizes (i + 1) (words + more) (sampled + taken)
 walk_more sizes i words sampled more taken w p q e f =

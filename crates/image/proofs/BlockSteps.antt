@@ -11,7 +11,7 @@ use Rattle.laws.proofs.Chains.{each-suc, length-each}
 use Rattle.block.specs.Bytes.{word_bytes, bytes_of, all_bytes}
 use Rattle.block.specs.Block.{block_words, block_content, block_bytes, check_place, check_step, check_of, checked_words, block_of, image_words}
 use Rattle.block.proofs.Checks.{check-first, check_next}
-use Rattle.block.proofs.Written.{written, all_bytes_one, written_none, written_more, length-block, length_image, image_none, image_suc}
+use Rattle.block.proofs.Written.{written, all_bytes_one, written_none, length_written, written_more, length-block, length_image, image_none, image_suc}
 use Rattle.image.specs.Steps.{Contented}
 
 module _ (content : ℕ → ℕ) (b : ℕ) (image : List ℕ) where
@@ -35,6 +35,10 @@ module _ (content : ℕ → ℕ) (b : ℕ) (image : List ℕ) where
   contented_all told after c = record { bytes = c.bytes; check = c.check }
 
   module _ (room : block_bytes * b + block_bytes ≤ length image) where
+    pub contented_length : {n told : ℕ} {after : List ℕ} → n ≤ block_content → ContentedTo n told after → length after ≡ length image
+    contented_length {n} h c =
+        ap length c.bytes ∙ length_written image (block_words * b + 1) (block_first n) (omega (arith, length-first n))
+
     pub contented_more : (n told word next : ℕ) (after then : List ℕ) → n < block_content → ContentedTo n told after
         → word ≡ content (block_content * b + n) → then ≡ pasted (word_bytes * (block_words * b + 1 + n)) (bytes_of word) after → next ≡ check_step told word
         → ContentedTo (n + 1) next then
@@ -70,6 +74,9 @@ module _ (content : ℕ → ℕ) (image : List ℕ) where
   blocks_none = rw (image_none content) (sym (written_none image 0))
 
   module _ (b : ℕ) (now : List ℕ) (so_far : now ≡ blocks_in b) where
+    pub blocks_length : block_bytes * b ≤ length image → length now ≡ length image
+    blocks_length h = ap length so_far ∙ length_written image 0 (image_words content b) (omega (arith, length_image content b))
+
     pub blocks_more : (next : List ℕ) → block_bytes * b + block_bytes ≤ length image → next ≡ pasted (block_bytes * b) (all_bytes (block_of content b)) now → next ≡ blocks_in (b + 1)
     blocks_more next h p =
         let e : block_bytes * b ≡ word_bytes * (block_words * b) = omega arith in

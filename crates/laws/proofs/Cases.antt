@@ -4,7 +4,7 @@ use mathlib.Core.Bool.{Bool, true, false, not, ◌&&◌, false≢true}
 use Prim.Native.Nat.{ℕ, ◌≤◌, ◌<◌}
 use native.Mathlib.Omega.{arith}
 use lib.Dec.{eqb, ltb}
-use borrow.Author.Tests.{eqb-true, eqb-false, ltb-true, ltb-false, eq-eqb, ne_eqb, lt-ltb, le-ltb, not-false}
+use borrow.Author.Tests.{eqb-true, eqb-false, ltb-true, ltb-false, eq-eqb, ne_eqb, lt-ltb, le-ltb, not-true, not-false}
 use Rattle.laws.specs.Counting.{one}
 
 pub data Tri (a b : ℕ) : Type 0 where
@@ -60,3 +60,6 @@ eqb_both a b c d f g = go (eqb a b) refl
 -- a check that the code makes by `!`
 pub passed : {t u : Bool} → t ≡ u → not t ≡ false → u ≡ true
 passed {t} e h = sym e ∙ not-false t h
+
+pub failed : {t u : Bool} → t ≡ u → not t ≡ true → u ≡ false
+failed {t} e h = sym e ∙ not-true t h

@@ -5,7 +5,7 @@ use Prim.Native.Nat.{ℕ, zero, suc, ◌+◌, ◌*◌, ◌≤◌, ◌<◌}
 use native.Mathlib.Nat.{add-zero, add-suc, mul-zero, le_step, lt-suc_self}
 use native.Mathlib.Omega.{arith}
 use lib.Dec.{lit<}
-use lib.ListN.{length, get_or, take, drop, length-append, length-drop, get_or-append}
+use lib.ListN.{length, get_or, take, drop, replicate, length-append, length-drop, length-replicate, get_or-replicate, get_or-append}
 use lib.Seq.{get_or-append-add, get_or-drop, get_or-take, length-take-le, ext_get_or}
 use Rattle.laws.specs.Counting.{total, sum, chain, each}
 use Rattle.laws.proofs.Cases.{Tri, lt, eq, gt, tri}
@@ -90,3 +90,10 @@ pub each_part : (xs : List ℕ) (c n : ℕ) → c + n ≤ length xs → each (λ
 each_part xs c n h =
     let l : length (take n (drop c xs)) ≡ n = length-take-le n (drop c xs) (rw length-drop (omega arith)) in
     each_same _ _ n (λ i k. sym (get_or-take n (drop c xs) i 0 k ∙ get_or-drop c xs i 0)) ∙ each_back (take n (drop c xs)) n l
+
+-- numbers that are all the same
+pub each_const : (f : ℕ → ℕ) (v n : ℕ) → ((i : ℕ) → i < n → f i ≡ v) → each f n ≡ replicate n v
+each_const f v n e =
+    let l = length-each f n in
+    ext_get_or 0 _ _ (l ∙ sym (length-replicate n v))
+    (λ i h. let m : i < n = rw l at h in each_at f n i m ∙ e i m ∙ sym (get_or-replicate n i v 0 m))

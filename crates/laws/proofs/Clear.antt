@@ -11,7 +11,7 @@ use Rattle.std.specs.List.{All}
 use Rattle.std.proofs.lemmas.List.{get_or-drop, length-drop}
 use Rattle.std.proofs.lemmas.List.Elements.{All-get_or, All-from_get_or}
 use Rattle.laws.specs.Counting.{is_clear}
-use Rattle.laws.proofs.Cases.{refuted}
+use Rattle.laws.proofs.Cases.{Tri, lt, eq, gt, tri, refuted}
 use Rattle.laws.proofs.Sums.{rank_none, none_rank}
 
 module _ (f : ℕ → ℕ) (from to : ℕ) where
@@ -29,6 +29,23 @@ module _ (f : ℕ → ℕ) (from to : ℕ) where
 
   pub not_clear : (c : ℕ) → from ≤ c → c < to → (f c ≡ 0 → ⊥) → is_clear f from to ≡ false
   not_clear c l h n = refuted (is_clear f from to) (λ e. n (clear_known e c l h))
+
+-- ---- one number after another
+
+module _ (f : ℕ → ℕ) (from : ℕ) where
+  pub clear_none : is_clear f from from ≡ true
+  clear_none = is_clear_lem f from from (λ c l h. absurd (omega arith))
+
+  pub clear_more : (c : ℕ) → is_clear f from c ≡ true → f c ≡ 0 → is_clear f from (c + 1) ≡ true
+  clear_more c e z = is_clear_lem f from (c + 1) (λ k l h. go k l (tri k c) h)
+    where
+      go : (k : ℕ) → from ≤ k → Tri k c → k < c + 1 → f k ≡ 0
+      go k l (lt q) h = clear_known f from c e k l q
+      go k l (eq q) h = ap f q ∙ z
+      go k l (gt q) h = absurd (omega arith)
+
+  pub clear_less : (c to : ℕ) → to ≤ c → is_clear f from c ≡ true → is_clear f from to ≡ true
+  clear_less c to m e = is_clear_lem f from to (λ k l h. clear_known f from c e k l (omega arith))
 
 -- ---- the numbers of a list from one place to its end
 

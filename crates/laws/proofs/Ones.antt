@@ -32,6 +32,9 @@ pub rank_words : (ws : List ℕ) → Words ws → (i : ℕ) → rank (has ws) (6
 rank_words ws f zero = refl
 rank_words ws f (suc i) = ap (λ (n : ℕ). rank (has ws) (64 * n)) (sym (add-one i)) ∙ rank_next ws f i ∙ omega (arith, rank_words ws f i)
 
+pub rank_at : (ws : List ℕ) → Words ws → (i k : ℕ) → k ≤ 64 → rank (has ws) (64 * i + k) ≡ sum (λ j. ones (get_or ws j 0)) i + ones (get_or ws i 0 % 2 ^ k)
+rank_at ws f i k h = rank_word ws i k h ∙ ap (λ (n : ℕ). n + ones (get_or ws i 0 % 2 ^ k)) (rank_words ws f i)
+
 -- the set bits from a position to the end of its word
 pub rank-rest : (ws : List ℕ) → Words ws → (i k : ℕ) → k ≤ 64 → rank (λ j. has ws (64 * i + k + j)) (64 - k) ≡ ones (get_or ws i 0 / 2 ^ k)
 rank-rest ws f i k h =

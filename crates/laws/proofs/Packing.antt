@@ -78,3 +78,8 @@ pub packed_store : (n : ℕ) (s : ℕ → Bool) (ws us : List ℕ) → n ≤ len
     → drop n us ≡ drop n ws → us ≡ packed n s ++ drop n ws
 packed_store n s ws us h f e d =
     sym (take-append-drop n us) ∙ ap₂ (λ (x y : List ℕ). x ++ y) (sym (packed_below n s (has us) e ∙ packed-take n us h f)) d
+
+-- two lists of words with the same bits are the same
+pub words_ext : (us vs : List ℕ) → length us ≡ length vs → Words us → Words vs → ((b : ℕ) → b < 64 * length us → has us b ≡ has vs b) → us ≡ vs
+words_ext us vs l f g e =
+    sym (packed_back us f) ∙ packed_below (length us) (has us) (has vs) e ∙ ap (λ (n : ℕ). packed n (has vs)) l ∙ packed_back vs g

@@ -1,13 +1,13 @@
 -- Lists of words bit by bit: a bit as a digit, and one bit set or cleared. Assumes nothing.
 use mathlib.Core.Path.{◌≡◌, refl, sym, ap, ◌∙◌}
-use mathlib.Core.Bool.{Bool, true, false, cond, ◌||◌}
+use mathlib.Core.Bool.{Bool, true, false, not, cond, ◌||◌, ◌&&◌}
 use mathlib.Core.List.{List, ◌++◌}
 use mathlib.Core.Logic.{◌≢◌}
 use Prim.Native.Nat.{ℕ, ◌+◌, ◌-◌, ◌*◌, ◌/◌, ◌%◌, ◌^◌, ◌≤◌, ◌<◌}
 use native.Mathlib.Nat.{lt_of_le_of_lt, mod-lt, sub-le}
 use native.Mathlib.Decide.{ℕ_discrete}
 use native.Mathlib.Omega.{arith}
-use borrow.Author.Tests.{eqb-true, eqb-false, ne_eqb}
+use borrow.Author.Tests.{eqb-true, eqb-false, eq-eqb, ne_eqb}
 use lib.Dec.{eqb, lit<}
 use lib.ListN.{length, get_or, set, drop, length-set, get_or-append}
 use lib.Seq.{get_or-set_same, get_or-set_other, set-get_or, set_out, drop-set-lt}
@@ -31,6 +31,11 @@ has-digit ws i k l =
     let p : (64 * i + k) / 64 ≡ i = omega arith in
     let q : (64 * i + k) % 64 ≡ k = omega arith in
     rw (p, q) at (has_at ws (64 * i + k))
+
+-- from the test of the digit
+pub has-set : (ws : List ℕ) (b : ℕ) → digit (get_or ws (b / 64) 0) (b % 64) ≡ 1 → has ws b ≡ true
+unfolding has bit_at
+has-set ws b e = eq-eqb _ _ e
 
 pub has_clear : (ws : List ℕ) (b : ℕ) → (digit (get_or ws (b / 64) 0) (b % 64) ≡ 1 → ⊥) → has ws b ≡ false
 unfolding has bit_at
@@ -145,5 +150,12 @@ pub with_has : (ws : List ℕ) (b : ℕ) → b / 64 < length ws → (j : ℕ) �
 with_has ws b h j = put_has (with_put ws b) h j ∙ go (eqb j b)
   where
     go : (q : Bool) → cond q true (has ws j) ≡ q || has ws j
+    go true = refl
+    go false = refl
+
+pub without_has : (ws : List ℕ) (b : ℕ) → b / 64 < length ws → (j : ℕ) → has (without_bit ws b) j ≡ not (eqb j b) && has ws j
+without_has ws b h j = put_has (without_put ws b) h j ∙ go (eqb j b)
+  where
+    go : (q : Bool) → cond q false (has ws j) ≡ not q && has ws j
     go true = refl
     go false = refl

@@ -9,7 +9,7 @@ use native.Mathlib.Decide.{ℕ_discrete}
 use native.Mathlib.Omega.{arith}
 use borrow.Author.Tests.{eq-eqb, ne_eqb}
 use lib.Dec.{eqb}
-use lib.ListN.{length, get_or, set, take, length-append}
+use lib.ListN.{length, get_or, set, take, length-append, length-drop}
 use lib.Seq.{length-take-le}
 use Rattle.laws.specs.Counting.{hits, sift}
 use Rattle.laws.specs.Bits.{has, words_for, without_bit}
@@ -76,10 +76,16 @@ module _ (g : ℕ → ℕ) (size : ℕ) (within : (id : ℕ) → g id < size) (c
 
 -- ---- the loop, after the first i ids of the rest store
 
+pub filter_none : (g : ℕ → ℕ) (collide ws store : List ℕ) → Filtered g collide 0 ws store 0 ws store
+filter_none g collide ws store = record { words_are = refl; store_is = refl; count_is = refl }
+
 module _ {g : ℕ → ℕ} {collide ws store : List ℕ} {i kept : ℕ} {ws₁ store₁ : List ℕ} (t : Filtered g collide i ws store kept ws₁ store₁) where
   pub kept_le : i ≤ length store → kept ≤ i
   kept_le h =
       omega (arith, t.count_is, length-sift (goes_on g collide) (take i store), tally_not (goes_on g collide) (take i store), length-take-le i store h)
+
+  pub kept_length : i ≤ length store → length store₁ ≡ length store
+  kept_length h = rw (t.store_is, length-append, length-drop, ← t.count_is) (omega (arith, kept_le h))
 
   module _ (h : i < length store) {told : Bool} {ws₂ : List ℕ} (u : OneFiltered g collide ws₁ (get_or store₁ i 0) told ws₂) where
     -- the next id is still where it stood

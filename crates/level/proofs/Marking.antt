@@ -1,7 +1,7 @@
 -- Marking, bit by bit: the level has the positions that were met, collide those that were met again. Assumes nothing.
 use mathlib.Core.Path.{◌≡◌, refl, sym, ◌∙◌}
 use mathlib.Core.Bool.{Bool, true, false, not, ◌||◌, ◌&&◌, or-false, or-true}
-use mathlib.Core.List.{List, [], ◌∷◌, ◌++◌}
+use mathlib.Core.List.{List, [], ◌∷◌, ◌++◌, foldl-append}
 use Prim.Native.Nat.{ℕ, ◌+◌, ◌*◌, ◌/◌, ◌<◌}
 use mathlib.Core.Logic.{◌≢◌}
 use native.Mathlib.Nat.{add-zero, zero-add, add_assoc}
@@ -107,6 +107,10 @@ pub still_room : (size : ℕ) {s t : MarkStores} → Both size s t → Room size
 still_room size k r = record { own = rw k.own.same_length r.own; other = rw k.other.same_length r.other }
 
 -- ---- a list of ids
+
+-- ids in two lists: the second after the first
+pub mark_append : (g : ℕ → ℕ) (s : MarkStores) (xs ys : List ℕ) → mark_all g s (xs ++ ys) ≡ mark_all g (mark_all g s xs) ys
+mark_append g s xs ys = foldl-append (mark_one g) s xs ys
 
 -- bit j of the stores, where n of the ids have that position
 pub record Met (j n : ℕ) (s : MarkStores) : Type 0 where

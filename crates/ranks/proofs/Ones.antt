@@ -5,14 +5,23 @@ use Prim.Native.Nat.{ℕ, ◌+◌, ◌-◌, ◌*◌, ◌/◌, ◌%◌, ◌^◌, 
 use native.Mathlib.Nat.{div-add-mod}
 use native.Mathlib.Omega.{arith}
 use lib.Count.{ones}
-use lib.ListN.{get_or}
+use lib.ListN.{length, get_or}
 use Rattle.bounds.specs.Bounds.{sample_bits}
-use Rattle.laws.specs.Counting.{one, rank}
-use Rattle.laws.specs.Bits.{has}
+use Rattle.laws.specs.Counting.{one, sum, rank}
+use Rattle.laws.specs.Bits.{has, Words}
 use Rattle.laws.proofs.Sums.{sum_split, rank-le}
 use Rattle.laws.proofs.Digits.{ones_shl}
-use Rattle.laws.proofs.Ones.{rank_word}
-use Rattle.ranks.specs.Ranks.{ones_from}
+use Rattle.laws.proofs.Ones.{rank_word, rank_words}
+use Rattle.ranks.specs.Ranks.{set_bits, ones_from}
+
+-- the set bits of words are the ones of each word, summed
+pub set_bits_words : (ws : List ℕ) → Words ws → set_bits ws ≡ sum (λ i. ones (get_or ws i 0)) (length ws)
+unfolding set_bits
+set_bits_words ws f = rank_words ws f (length ws)
+
+pub set_bits_le : (ws : List ℕ) → set_bits ws ≤ 64 * length ws
+unfolding set_bits
+set_bits_le ws = rank-le (has ws) (64 * length ws)
 
 module _ (ws : List ℕ) (p : ℕ) where
   pub ones_from_le : ones_from ws p ≤ p % sample_bits

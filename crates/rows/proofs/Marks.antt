@@ -2,7 +2,7 @@
 -- Assumes nothing.
 use mathlib.Core.Path.{◌≡◌, refl, sym, ap, ◌∙◌}
 use mathlib.Core.Bool.{Bool, true, false, ◌||◌, false≢true}
-use mathlib.Core.List.{List}
+use mathlib.Core.List.{List, []}
 use mathlib.Core.Option.{Option, none, some}
 use Prim.Native.Nat.{ℕ, suc, ◌+◌, ◌≤◌, ◌<◌}
 use native.Mathlib.Nat.{add-zero}
@@ -18,7 +18,7 @@ use Rattle.laws.specs.Bits.{has, words_for}
 use Rattle.laws.proofs.Counts.{total-append, total-take}
 use Rattle.laws.proofs.Words.{with_put, put_drop, with_has}
 use Rattle.rows.specs.Rows.{is_none, is_row, rowless, sent}
-use Rattle.rows.specs.Passes.{is_new, with_row, Marked, Checked}
+use Rattle.rows.specs.Passes.{is_new, with_row, Marked, Checked, Unmarked}
 use Rattle.rows.proofs.Lists.{apart_known, apart_is, not_apart}
 
 -- ---- all ids
@@ -32,6 +32,9 @@ pub record Marking (row : ℕ → Option ℕ) (count : ℕ) (marks passed now : 
   pub all_rows : rowless row passed ≡ 0
   pub each : (k : ℕ) → k < count → one (has now k) ≡ sent row passed k
   pub past : drop (words_for count) now ≡ drop (words_for count) marks
+
+pub marking_none : (row : ℕ → Option ℕ) (count : ℕ) (marks : List ℕ) → Unmarked count marks → Marking row count marks [] marks
+marking_none row count marks u = record { all_rows = refl; each = λ k l. ap one (u.clear k l); past = refl }
 
 -- one row more
 added : (now : List ℕ) (r k : ℕ) → has now r ≡ false → one (eqb k r || has now k) ≡ one (has now k) + one (eqb r k)
