@@ -30,90 +30,80 @@ const DONE: u64 = 0;
 // The answer of refusal 6, which gives how many ids remain.
 const IDS_REMAIN: u64 = u64::MAX - 6;
 
-// What a build is lent.
-#[derive(Drop)]
-struct Stores {
-    words: [u64; MOST_WORDS],
-    samples: [u64; MOST_SAMPLES],
-    collide: [u64; MOST_WORDS],
-    rest: [u64; MOST_IDS],
-    out: [u64; OUT],
+// What a build left in the stores that it was lent: a value, an index, and what only the build uses. Views of stores, so that these are not copied.
+#[derive(Clone, Copy)]
+struct Left<'a> {
+    value: u64,
+    index: Index<'a>,
+    collide: &'a [u64],
+    rest: &'a [u64],
 }
 
 // Of a build that is refused: gamma's bits, how many ids, 0, how many remain, the ids.
 // Of any other: gamma's bits, how many ids, how many levels, how many lookups, how many words, how many samples, the ids, and the parts of `is_index`.
 pub fn build(line: Line<'_>) -> bool {
-    let mut stores = Stores::new();
-    let answer = stores.build(line);
-    if !stores.are_swept() {
+    let mut words = [USED; MOST_WORDS];
+    let mut samples = [USED; MOST_SAMPLES];
+    let mut collide = [USED; MOST_WORDS];
+    let mut rest = [USED; MOST_IDS];
+    let mut out = [USED; OUT];
+    let answer = shawltide_build(
+        PLAIN,
+        real(line.number(0)),
+        ids(line),
+        &mut words,
+        &mut samples,
+        &mut collide,
+        &mut rest,
+        &mut out,
+    );
+    let left = Left {
+        value: out[0],
+        index: Index {
+            head: &out[1..],
+            words: &words,
+            samples: &samples,
+        },
+        collide: &collide,
+        rest: &rest,
+    };
+    if !left.is_swept() {
         return false;
     }
     if line.number(2) == 0 {
-        answer == IDS_REMAIN && stores.is_refused(line)
+        answer == IDS_REMAIN && left.is_refused(line)
     } else {
-        answer == DONE && stores.is_index(line)
+        answer == DONE && left.is_index(line)
     }
 }
 
-impl Stores {
-    fn new() -> Stores {
-        Stores {
-            words: [USED; MOST_WORDS],
-            samples: [USED; MOST_SAMPLES],
-            collide: [USED; MOST_WORDS],
-            rest: [USED; MOST_IDS],
-            out: [USED; OUT],
-        }
-    }
-
-    // The answer of the build of a line.
-    fn build(&mut self, line: Line<'_>) -> u64 {
-        shawltide_build(
-            PLAIN,
-            real(line.number(0)),
-            ids(line),
-            &mut self.words,
-            &mut self.samples,
-            &mut self.collide,
-            &mut self.rest,
-            &mut self.out,
-        )
-    }
-
+impl Left<'_> {
     // Whether nothing is left of what only the build uses.
-    fn are_swept(&self) -> bool {
-        is_just(&self.collide, &[]) && is_just(&self.rest, &[])
+    fn is_swept(self) -> bool {
+        is_just(self.collide, &[]) && is_just(self.rest, &[])
     }
 
     // Whether as many ids remain as the line says, and nothing else is left: no head, no word, no sample.
-    fn is_refused(&self, line: Line<'_>) -> bool {
+    fn is_refused(self, line: Line<'_>) -> bool {
         line.len() == 4 + line.many(1)
-            && is_just(&self.out, line.part(3, 1))
-            && is_just(&self.words, &[])
-            && is_just(&self.samples, &[])
+            && self.value == line.number(3)
+            && is_just(self.index.head, &[])
+            && is_just(self.index.words, &[])
+            && is_just(self.index.samples, &[])
     }
 
     // Whether a build left the index of the line, which has after the ids: level sizes, words, samples, the row of each id, the ids looked up, the answer of each.
-    fn is_index(&self, line: Line<'_>) -> bool {
+    fn is_index(self, line: Line<'_>) -> bool {
         let levels_at = 6 + line.many(1);
         let words_at = levels_at + line.many(2);
         let samples_at = words_at + line.many(4);
         let rows_at = samples_at + line.many(5);
         let sizes = line.part(levels_at, line.many(2));
-        self.out[0] == 0
-            && head(line.number(1), sizes).is_some_and(|head| &self.out[1..] == head.as_slice())
-            && is_just(&self.words, line.part(words_at, line.many(4)))
-            && is_just(&self.samples, line.part(samples_at, line.many(5)))
-            && are_rows(line, rows_at, self.index())
-    }
-
-    // The index that a build left.
-    fn index(&self) -> Index<'_> {
-        Index {
-            head: &self.out[1..],
-            words: &self.words,
-            samples: &self.samples,
-        }
+        self.value == 0
+            && head(line.number(1), sizes).is_some_and(|head| self.index.head == head.as_slice())
+            && is_just(self.index.words, line.part(words_at, line.many(4)))
+            && is_just(self.index.samples, line.part(samples_at, line.many(5)))
+            && are_rows(line, rows_at, self.index)
     }
 }
 
