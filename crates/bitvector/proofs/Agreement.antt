@@ -134,16 +134,21 @@ pub fronts_apart : (ws us : List ℕ) (n : ℕ) → Words ws → Words us → wo
 fronts_apart ws us n f g h l q =
     refuted (same_bits ws us n) (λ e. q (fronts_same ws us (n / 64) f g (omega arith) (omega arith) (both _ _ (sym (by_words ws us n) ∙ e)).0))
 
--- and where they are, its own word decides by its part
-pub last_part : (ws us : List ℕ) (n : ℕ) → take (n / 64) ws ≡ take (n / 64) us
+-- where they have the same bits, the word of n decides by its part
+pub last_part : (ws us : List ℕ) (n : ℕ) → same_bits ws us (64 * (n / 64)) ≡ true
     → same_bits ws us n ≡ eqb (get_or ws (n / 64) 0 * 2 ^ (64 - n % 64) % 2 ^ 64) (get_or us (n / 64) 0 * 2 ^ (64 - n % 64) % 2 ^ 64)
 last_part ws us n e =
     let i : ℕ = n / 64 in
     let k : ℕ = n % 64 in
     by_words ws us n
-    ∙ ap₂ ◌&&◌ (same_fronts ws us i e) (same_number (λ j. has ws (64 * i + j)) (λ j. has us (64 * i + j)) k)
+    ∙ ap₂ ◌&&◌ e (same_number (λ j. has ws (64 * i + j)) (λ j. has us (64 * i + j)) k)
     ∙ ap₂ eqb (number-has ws i k (omega arith)) (number-has us i k (omega arith))
     ∙ sym (shl_same (get_or ws i 0) (get_or us i 0) k (omega arith))
+
+-- and so where they are the same
+pub last_word : (ws us : List ℕ) (n : ℕ) → take (n / 64) ws ≡ take (n / 64) us
+    → same_bits ws us n ≡ eqb (get_or ws (n / 64) 0 * 2 ^ (64 - n % 64) % 2 ^ 64) (get_or us (n / 64) 0 * 2 ^ (64 - n % 64) % 2 ^ 64)
+last_word ws us n e = last_part ws us n (same_fronts ws us (n / 64) e)
 
 -- of which nothing is asked where n is a whole number of words
 pub no_part : (ws us : List ℕ) (n : ℕ) → take (n / 64) ws ≡ take (n / 64) us → n % 64 ≡ 0 → same_bits ws us n ≡ true

@@ -88,11 +88,14 @@ module _ (pos : (level size id : ℕ) → ℕ) (count levels : ℕ) (sizes ws ss
   bit_here : told ≡ bit_at pos count (size_at sizes) ws ss x i
   bit_here = has_it ∙ ap₂ has (us-are ∙ t.words_are) p-is
 
+  pub not_here : told ≡ false → bit_at pos count (size_at sizes) ws ss x i ≡ false
+  not_here f = sym bit_here ∙ f
+
   pub still_none : told ≡ false → ((m : ℕ) → m < i → bit_at pos count (size_at sizes) ws ss x m ≡ false) → (m : ℕ) → m < i + 1
       → bit_at pos count (size_at sizes) ws ss x m ≡ false
   still_none f before m h =
       elim (eq-or-lt_of_le (le_of_suc-le-suc (rw (add-one i) at h))) [
-        | inl e ↦ rw e (sym bit_here ∙ f)
+        | inl e ↦ rw e (not_here f)
         | inr l ↦ before m l
       ]
 

@@ -6,7 +6,7 @@ use native.Mathlib.Nat.{add-zero}
 use native.Mathlib.Numerals.{add-one}
 use native.Mathlib.Omega.{arith}
 use lib.Dec.{lit<}
-use lib.ListN.{length, get_or, take, drop, set, length-drop}
+use lib.ListN.{length, get_or, take, drop, set, length-append, length-drop}
 use lib.Seq.{drop-cons, set_at, take_at, drop_at, drop-drop}
 use Rattle.bounds.specs.Bounds.{sample_bits, sample_words}
 use Rattle.laws.specs.Counting.{rank}
@@ -64,9 +64,12 @@ module _ (before : ℕ) (ws store : List ℕ) where
   abbrev pub sampled_to : ℕ → List ℕ
   sampled_to n = first_samples before ws n ++ drop n store
 
-  sampled_none : sampled_to 0 ≡ store
+  pub sampled_none : sampled_to 0 ≡ store
   unfolding first_samples
   sampled_none = refl
+
+  pub length_sampled : (n : ℕ) → n ≤ length store → {now : List ℕ} → now ≡ sampled_to n → length now ≡ length store
+  length_sampled n h e = rw e (simp (length-append, length-drop, length-first) (omega arith))
 
   sampled_next : (j v : ℕ) → j < length store → v ≡ before + rank (has ws) (sample_bits * j) → set (sampled_to j) j v ≡ sampled_to (j + 1)
   unfolding first_samples

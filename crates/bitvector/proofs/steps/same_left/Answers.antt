@@ -2,7 +2,7 @@
 use mathlib.Core.Path.{sym, ◌∙◌}
 use native.Mathlib.Omega.{arith}
 use borrow.Author.Tests.{eq-eqb}
-use Rattle.bitvector.proofs.Agreement.{alike, unlike, fronts_apart, last_part, no_part}
+use Rattle.bitvector.proofs.Agreement.{alike, unlike, fronts_apart, last_word, no_part}
 use Rattle.bitvector.proofs.steps.same_left.Goals as goal
 
 pub returns-then-ne : goal.returns-then-ne
@@ -15,4 +15,4 @@ returns-then-part-eq0 c =
     eq-eqb _ _ whole ∙ sym (no_part _ _ c.args.bit (alike c.ne.ensures c.if-ne.false) whole)
 
 pub returns-else-part-eq0 : goal.returns-else-part-eq0
-returns-else-part-eq0 c = sym (last_part _ _ c.args.bit (alike c.ne.ensures c.if-ne.false))
+returns-else-part-eq0 c = sym (last_word _ _ c.args.bit (alike c.ne.ensures c.if-ne.false))
