@@ -78,12 +78,15 @@ fn begin(ids: &[u64], lent: &mut Stores)
     copy(ids, lent.rest);
 }
 
-// Copies the ids to the front of the rest store. A function on a plain slice: of a copy into a field of a lent struct the check knows the length alone.
+// Copies the ids to the front of the rest store. A function on a plain slice: after a loop over a field of a lent struct, what the struct holds does not follow
+// by itself. No `copy_from_slice`: that is a memmove, which the archive for C would need from outside beside memcpy and memset.
 fn copy(ids: &[u64], rest: &mut [u64])
     requires { length ids.now ≤ length rest.old }
     ensures { rest.new ≡ fronted ids.now rest.old }
 {
-    rest[..ids.len()].copy_from_slice(ids);
+    for (i, id) in ids.iter().enumerate() {
+        rest[i] = *id;
+    }
 }
 
 // What a run answers: the head of the index, or a refusal, which leaves nothing in the index's stores. The rest store is cleared.
