@@ -1,4 +1,5 @@
-// Cases of hashes, and of the positions and sizes that rest on them: what the numbers of a line are, and whether the proved functions answer as it says.
+// Each kind of case; and cases of hashes, and of the positions and sizes that rest on them: what the numbers of a line are, and whether the proved functions answer
+// as it says.
 #![tactic(auto)]
 
 ghost use Rattle.std.specs.Prelude.{◌≡◌, ◌≤◌, ◌↔◌, IsTrue};
@@ -11,6 +12,66 @@ ghost use Rattle.mixer.specs.Position.{folded, position as position_of};
 use lists::line::Line;
 use lists::real::real;
 use trial::measure::measure;
+
+// A kind of case, which has a list of its own.
+#[derive(Clone, Copy)]
+pub enum Case {
+    // state, output: of the public splitmix64.c
+    Splitmix,
+    // level, id, hash
+    Mixer,
+    // value, folded
+    Fold,
+    // level, size, id, position
+    Position,
+    // gamma's bits, ids, size, words
+    Size,
+    // the calls of the word set: see `set_cases`
+    New,
+    Ones,
+    IsEmpty,
+    Len,
+    Contains,
+    Insert,
+    Remove,
+    InsertAll,
+    EqLeft,
+    Members,
+    // see `level_cases`
+    Level,
+    Samples,
+    Rank,
+    // see `lookup_cases`
+    Lookup,
+    // see `build_cases`
+    Build,
+}
+
+// Whether a line is a case of this kind that holds. `store` is a copy of the line, which a call may write to.
+pub fn holds(case: Case, line: Line<'_>, store: &mut [u64]) -> bool {
+    match case {
+        Case::Splitmix => splitmix(line),
+        Case::Mixer => hash(line),
+        Case::Fold => fold(line),
+        Case::Position => position(line),
+        Case::Size => size(line),
+        Case::New => set_cases::new(line, store),
+        Case::Ones => set_cases::ones(line, store),
+        Case::IsEmpty => set_cases::is_empty(line),
+        Case::Len => set_cases::len(line),
+        Case::Contains => set_cases::contains(line),
+        Case::Insert => set_cases::insert(line, store),
+        Case::Remove => set_cases::remove(line, store),
+        Case::InsertAll => set_cases::insert_all(line, store),
+        Case::EqLeft => set_cases::eq_left(line),
+        Case::Members => set_cases::members(line, store),
+        Case::Level => level_cases::place(line, store),
+        Case::Samples => level_cases::samples(line, store),
+        Case::Rank => level_cases::rank(line),
+        Case::Lookup => lookup_cases::lookup(line),
+        Case::Build => build_cases::build(line),
+    }
+}
 
 // state, output: of the public splitmix64.c
 pub fn splitmix(line: Line<'_>) -> bool
