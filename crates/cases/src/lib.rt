@@ -115,6 +115,6 @@ pub fn position(line: Line<'_>) -> bool
 
 // gamma's bits, ids, size, words
 pub fn size(line: Line<'_>) -> bool {
-    let takes = measure(real(line.number(0)), line.number(1)).unwrap_or_default();
+    let takes = measure(real(line.number(0)), line.number(1));
     line.len() == 4 && takes.bits == line.number(2) && takes.words == line.number(3)
 }
