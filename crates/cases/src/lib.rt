@@ -1,16 +1,78 @@
-// Cases of hashes, and of the positions and sizes that rest on them: what the numbers of a line are, and whether the proved functions answer as it says.
+// Each kind of case; and cases of hashes, and of the positions and sizes that rest on them: what the numbers of a line are, and whether the proved functions answer
+// as it says.
 #![tactic(auto)]
 
-ghost use Rattle.std.specs.Prelude.{◌≡◌, ◌≤◌, ◌↔◌, IsTrue};
+ghost use Rattle.std.specs.Prelude.{◌≡◌, ◌≤◌, ◌↔◌, Float, IsTrue};
 ghost use Rattle.bounds.specs.Bounds.{max_bits};
 ghost use Rattle.lists.specs.Line.{count_of, number_at};
 ghost use Rattle.mixer.specs.declared.Kind.TheVariants.{Plain};
 ghost use Rattle.mixer.specs.Mixer.{mixed, hashed};
 ghost use Rattle.mixer.specs.Position.{folded, position as position_of};
+ghost use Rattle.trial.specs.Takes.{takes_for};
 
 use lists::line::Line;
 use lists::real::real;
 use trial::measure::measure;
+
+// A kind of case, which has a list of its own.
+#[derive(Clone, Copy)]
+pub enum Case {
+    // state, output: of the public splitmix64.c
+    Splitmix,
+    // level, id, hash
+    Mixer,
+    // value, folded
+    Fold,
+    // level, size, id, position
+    Position,
+    // gamma's bits, ids, size, words
+    Size,
+    // the calls of the word set: see `set_cases`
+    New,
+    Ones,
+    IsEmpty,
+    Len,
+    Contains,
+    Insert,
+    Remove,
+    InsertAll,
+    EqLeft,
+    Members,
+    // see `level_cases`
+    Level,
+    Samples,
+    Rank,
+    // see `lookup_cases`
+    Lookup,
+    // see `build_cases`
+    Build,
+}
+
+// Whether a line is a case of this kind that holds. `store` is a copy of the line, which a call may write to.
+pub fn holds(case: Case, line: Line<'_>, store: &mut [u64]) -> bool {
+    match case {
+        Case::Splitmix => splitmix(line),
+        Case::Mixer => hash(line),
+        Case::Fold => fold(line),
+        Case::Position => position(line),
+        Case::Size => size(line),
+        Case::New => set_cases::new(line, store),
+        Case::Ones => set_cases::ones(line, store),
+        Case::IsEmpty => set_cases::is_empty(line),
+        Case::Len => set_cases::len(line),
+        Case::Contains => set_cases::contains(line),
+        Case::Insert => set_cases::insert(line, store),
+        Case::Remove => set_cases::remove(line, store),
+        Case::InsertAll => set_cases::insert_all(line, store),
+        Case::EqLeft => set_cases::eq_left(line),
+        Case::Members => set_cases::members(line, store),
+        Case::Level => level_cases::place(line, store),
+        Case::Samples => level_cases::samples(line, store),
+        Case::Rank => level_cases::rank(line),
+        Case::Lookup => lookup_cases::lookup(line),
+        Case::Build => build_cases::build(line),
+    }
+}
 
 // state, output: of the public splitmix64.c
 pub fn splitmix(line: Line<'_>) -> bool
@@ -52,8 +114,12 @@ pub fn position(line: Line<'_>) -> bool
     line.len() == 4 && position == line.number(3)
 }
 
-// gamma's bits, ids, size, words
-pub fn size(line: Line<'_>) -> bool {
-    let takes = measure(real(line.number(0)), line.number(1)).unwrap_or_default();
+// gamma's bits, ids, size, words. The clause names no gamma: of the one that it gives `real` says nothing.
+pub fn size(line: Line<'_>) -> bool
+    ensures { let n = number_at line.entry in
+        (gamma : Float) × (let takes = takes_for gamma (n 1) in
+        IsTrue result ↔ (count_of line.entry ≡ 4 × takes.bits ≡ n 2 × takes.words ≡ n 3)) }
+{
+    let takes = measure(real(line.number(0)), line.number(1));
     line.len() == 4 && takes.bits == line.number(2) && takes.words == line.number(3)
 }

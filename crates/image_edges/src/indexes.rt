@@ -18,7 +18,7 @@ pub fn written(rt: &impl Print) -> io::Result<()> {
 // The lines of an index: how many blocks it takes, each word of them, and what they are read as.
 fn index(rt: &impl Print, ids: &[u64]) -> io::Result<()> {
     let mut image = [7; IMAGE];
-    let blocks = write(ids, &mut image);
+    let blocks = write_index(ids, &mut image);
     answer(
         rt,
         format_args!("image of {} ids, blocks", ids.len()),
@@ -27,15 +27,8 @@ fn index(rt: &impl Print, ids: &[u64]) -> io::Result<()> {
     show(rt, first(&image, 1024))
 }
 
-// The image of the index of 9, and zeros behind it.
-pub fn image_of_9() -> [u8; IMAGE] {
-    let mut image = [0; IMAGE];
-    let _ = write(&[9], &mut image);
-    image
-}
-
 // Writes the image of the index of these ids, of which there are three at most.
-fn write(ids: &[u64], image: &mut [u8]) -> Result<u64, Refusal> {
+pub fn write_index(ids: &[u64], image: &mut [u8]) -> Result<u64, Refusal> {
     let index = Small::build(2.0, ids);
     image::write(&index.head(), &index.words, &index.samples, image)
 }

@@ -7,5 +7,5 @@ mod lines;
 pub mod places;
 
 pub use change::Change;
-pub use indexes::{IMAGE, image_of_9, written};
+pub use indexes::{IMAGE, write_index, written};
 pub use lines::{read, show};

@@ -1,6 +1,6 @@
 // Reading the image of the index of 9 with another kind in it, in blocks with their numbers and checks. Word 1 has the form, 2 the kind, and `read_edges` says what the others have.
 use image_edges::places::put;
-use image_edges::{Change, image_of_9};
+use image_edges::{Change, IMAGE, write_index};
 use std::io;
 
 pub(crate) fn kinds(rt: &impl Print) -> io::Result<()> {
@@ -30,7 +30,8 @@ pub(crate) fn beside(rt: &impl Print) -> io::Result<()> {
 
 // A line: the image, with this kind and with a block 2 of zeros behind it, is changed and read.
 fn changed(rt: &impl Print, kind: u64, change: Change) -> io::Result<()> {
-    let mut image = image_of_9();
+    let mut image = [0; IMAGE];
+    let _ = write_index(&[9], &mut image);
     put(&mut image, 2, kind);
     put(&mut image, 128, 2);
     change.read(rt, format_args!("read, kind {kind}"), image)

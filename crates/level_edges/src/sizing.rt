@@ -29,7 +29,7 @@ pub fn sizes(rt: &impl Print) -> io::Result<()> {
 
 // A line: what a level takes for so many ids, or nothing.
 fn size(rt: &impl Print, gamma: f64, ids: u64) -> io::Result<()> {
-    let takes = measure(gamma, ids).unwrap_or_default();
+    let takes = measure(gamma, ids);
     println!(rt;
         "gamma {gamma}, {ids} ids: {} bits, {} words, {} samples",
         takes.bits, takes.words, takes.samples

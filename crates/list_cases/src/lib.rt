@@ -1,8 +1,9 @@
 // The cases of a list, one after the other, up to the check that ends it.
 #![tactic(auto)]
 
+use cases::{Case, holds};
 use lists::file::List;
-use lists::line::{Line, MOST};
+use lists::line::MOST;
 use std::io::Read;
 use std::{fmt, io};
 
@@ -27,14 +28,9 @@ impl fmt::Display for Fault {
 // No list has more cases.
 const MOST_CASES: u64 = 1_000_000;
 
-// How many cases a list has, each of which holds. A case is lent a copy of its line too, which its calls may write to. Lines are counted, since the number of one that
-// does not hold is the answer.
-pub fn compare<R: Read + Drop, F: Fn(Line<'_>, &mut [u64]) -> bool>(
-    list: &mut List<R>,
-    holds: F,
-) -> Result<u64, Fault>
-    requires { F.IsAlwaysCallable holds }
-{
+// How many cases of this kind a list has, each of which holds. A case is lent a copy of its line too, which its calls may write to. Lines are counted, since the number
+// of one that does not hold is the answer.
+pub fn compare<R: Read + Drop>(list: &mut List<R>, case: Case) -> Result<u64, Fault> {
     let mut store = [0; MOST];
     for cases in 0..MOST_CASES {
         let at = cases + 1;
@@ -42,7 +38,7 @@ pub fn compare<R: Read + Drop, F: Fn(Line<'_>, &mut [u64]) -> bool>(
         let Some(line) = next else {
             return Ok(cases);
         };
-        if !holds(line, line.copy_to(&mut store)) {
+        if !holds(case, line, line.copy_to(&mut store)) {
             return Err(Fault::Differs(at));
         }
     }

@@ -1,7 +1,7 @@
 // Contents that are no index, in blocks with their numbers and checks. In the image of 9, word 1 has the form that a content begins with, 2 the kind, 3 the id count, 4 the level count, 5 to 62 and 65
 // to 106 the sizes, 107 to 110 the words, 111 the sample, and 112 to 126 the fill.
 use image_edges::places::put;
-use image_edges::{Change, image_of_9};
+use image_edges::{Change, IMAGE, write_index};
 use std::io;
 
 pub fn contents(rt: &impl Print) -> io::Result<()> {
@@ -68,7 +68,8 @@ pub fn stores(rt: &impl Print) -> io::Result<()> {
 
 // A line: the image, with a block 2 of zeros behind it, is changed and read.
 pub(crate) fn changed(rt: &impl Print, change: Change) -> io::Result<()> {
-    let mut image = image_of_9();
+    let mut image = [0; IMAGE];
+    let _ = write_index(&[9], &mut image);
     put(&mut image, 128, 2);
     change.read(rt, "read", image)
 }

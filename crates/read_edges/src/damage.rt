@@ -1,6 +1,6 @@
 // Lengths that are not those of blocks, and blocks whose number, content or check is another.
 use crate::content::changed;
-use image_edges::{Change, image_of_9, read};
+use image_edges::{Change, IMAGE, read, write_index};
 use std::io;
 use trial::stores::first;
 
@@ -41,7 +41,8 @@ fn bits(rt: &impl Print) -> io::Result<()> {
 
 // A line: so many bytes, of which these have their lowest bit turned.
 fn turned(rt: &impl Print, bytes: usize, places: &[usize]) -> io::Result<()> {
-    let mut image = image_of_9();
+    let mut image = [0; IMAGE];
+    let _ = write_index(&[9], &mut image);
     print!(rt; "read, bytes {bytes}")?;
     for &place in places {
         print!(rt; ", turned {place}")?;

@@ -2,46 +2,39 @@
 // same. One line is written for each kind: how many cases are equal, or the first that is not.
 #![tactic(auto)]
 
+use cases::Case;
 use list_cases::{compare, report};
 use lists::file::List;
-use lists::line::Line;
 use std::rt::Files;
 use std::{fs, io};
 
-// The cases that write to no copy of their line are not given it.
 fn main(rt: HostRuntime) -> io::Result<()> {
-    replay(&rt, "splitmix64", |line, _| cases::splitmix(line))?;
-    replay(&rt, "mixer", |line, _| cases::hash(line))?;
-    replay(&rt, "fold", |line, _| cases::fold(line))?;
-    replay(&rt, "position", |line, _| cases::position(line))?;
-    replay(&rt, "size", |line, _| cases::size(line))?;
-    replay(&rt, "new", set_cases::new)?;
-    replay(&rt, "ones", set_cases::ones)?;
-    replay(&rt, "is_empty", |line, _| set_cases::is_empty(line))?;
-    replay(&rt, "len", |line, _| set_cases::len(line))?;
-    replay(&rt, "contains", |line, _| set_cases::contains(line))?;
-    replay(&rt, "insert", set_cases::insert)?;
-    replay(&rt, "remove", set_cases::remove)?;
-    replay(&rt, "insert_all", set_cases::insert_all)?;
-    replay(&rt, "eq_left", |line, _| set_cases::eq_left(line))?;
-    replay(&rt, "members", set_cases::members)?;
-    replay(&rt, "level", level_cases::place)?;
-    replay(&rt, "samples", level_cases::samples)?;
-    replay(&rt, "rank", |line, _| level_cases::rank(line))?;
-    replay(&rt, "lookup", |line, _| lookup_cases::lookup(line))?;
-    replay(&rt, "build", |line, _| build_cases::build(line))
+    replay(&rt, "splitmix64", Case::Splitmix)?;
+    replay(&rt, "mixer", Case::Mixer)?;
+    replay(&rt, "fold", Case::Fold)?;
+    replay(&rt, "position", Case::Position)?;
+    replay(&rt, "size", Case::Size)?;
+    replay(&rt, "new", Case::New)?;
+    replay(&rt, "ones", Case::Ones)?;
+    replay(&rt, "is_empty", Case::IsEmpty)?;
+    replay(&rt, "len", Case::Len)?;
+    replay(&rt, "contains", Case::Contains)?;
+    replay(&rt, "insert", Case::Insert)?;
+    replay(&rt, "remove", Case::Remove)?;
+    replay(&rt, "insert_all", Case::InsertAll)?;
+    replay(&rt, "eq_left", Case::EqLeft)?;
+    replay(&rt, "members", Case::Members)?;
+    replay(&rt, "level", Case::Level)?;
+    replay(&rt, "samples", Case::Samples)?;
+    replay(&rt, "rank", Case::Rank)?;
+    replay(&rt, "lookup", Case::Lookup)?;
+    replay(&rt, "build", Case::Build)
 }
 
-// Compares the list of this name, whose lines are cases that hold or not, and writes its line.
-fn replay<F: Fn(Line<'_>, &mut [u64]) -> bool>(
-    rt: &(impl Files + Print + Eprint + Alloc),
-    name: &str,
-    holds: F,
-) -> io::Result<()>
-    requires { F.IsAlwaysCallable holds }
-{
+// Compares the list of this name, whose lines are cases of this kind, and writes its line.
+fn replay(rt: &(impl Files + Print + Eprint + Alloc), name: &str, case: Case) -> io::Result<()> {
     match fs::open(rt, name) {
-        Ok(file) => report(rt, name, compare(&mut List::new(file), holds)),
+        Ok(file) => report(rt, name, compare(&mut List::new(file), case)),
         Err(error) => fail(rt, name, error),
     }
 }

@@ -1,6 +1,8 @@
 // The bits, words and samples of a level.
+ghost use Rattle.std.specs.Prelude.{◌≡◌};
+ghost use Rattle.trial.specs.Takes.{takes_for};
 
-// What a level takes.
+// What a level takes: nothing, where gamma or the number of ids is out of bounds.
 #[derive(Clone, Copy, Default)]
 pub struct Takes {
     pub bits: u64,
@@ -8,18 +10,20 @@ pub struct Takes {
     pub samples: u64,
 }
 
-// What a level takes for so many ids, where gamma and they are in bounds.
-#[tactic(auto, using(sizes::proofs::Sizes::size_most))]
-pub fn measure(gamma: f64, ids: u64) -> Option<Takes> {
+// What a level takes for so many ids.
+#[tactic(auto, using(sizes::proofs::Sizes::size_most), unfolding(crate::specs::Takes::takes_for))]
+pub fn measure(gamma: f64, ids: u64) -> Takes
+    ensures { result ≡ takes_for gamma ids }
+{
     if sizes::above_max(gamma) || !sizes::above_min(gamma) || ids > bounds::MAX_IDS {
-        return None;
+        return Takes::default();
     }
     let bits = sizes::size(gamma, ids);
     let words = words::u64s(bits);
     let samples = sizes::samples(words);
-    Some(Takes {
+    Takes {
         bits,
         words,
         samples,
-    })
+    }
 }

@@ -1,0 +1,2 @@
+-- What only serves inner contracts.
+pub mod Takes
