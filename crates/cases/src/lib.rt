@@ -2,9 +2,10 @@
 // as it says.
 #![tactic(auto)]
 
-ghost use Rattle.std.specs.Prelude.{◌≡◌, ◌≤◌, ◌↔◌, Float, IsTrue};
+ghost use Rattle.std.specs.Prelude.{◌≡◌, ◌≤◌, ◌↔◌, IsTrue};
 ghost use Rattle.bounds.specs.Bounds.{max_bits};
 ghost use Rattle.lists.specs.Line.{count_of, number_at};
+ghost use Rattle.lists.specs.Real.{real_of};
 ghost use Rattle.mixer.specs.declared.Kind.TheVariants.{Plain};
 ghost use Rattle.mixer.specs.Mixer.{mixed, hashed};
 ghost use Rattle.mixer.specs.Position.{folded, position as position_of};
@@ -114,11 +115,11 @@ pub fn position(line: Line<'_>) -> bool
     line.len() == 4 && position == line.number(3)
 }
 
-// gamma's bits, ids, size, words. The clause names no gamma: of the one that it gives `real` says nothing.
+// gamma's bits, ids, size, words
 pub fn size(line: Line<'_>) -> bool
     ensures { let n = number_at line.entry in
-        (gamma : Float) × (let takes = takes_for gamma (n 1) in
-        IsTrue result ↔ (count_of line.entry ≡ 4 × takes.bits ≡ n 2 × takes.words ≡ n 3)) }
+        let takes = takes_for (real_of (n 0)) (n 1) in
+        IsTrue result ↔ (count_of line.entry ≡ 4 × takes.bits ≡ n 2 × takes.words ≡ n 3) }
 {
     let takes = measure(real(line.number(0)), line.number(1));
     line.len() == 4 && takes.bits == line.number(2) && takes.words == line.number(3)

@@ -1,3 +1,4 @@
 -- What only serves inner contracts.
 pub mod Line
 pub mod Lines
+pub mod Real

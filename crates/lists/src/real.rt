@@ -1,7 +1,12 @@
 // Gamma, which a line gives by its bits.
+ghost use Rattle.std.specs.Prelude.{◌≡◌};
+ghost use Rattle.lists.specs.Real.{real_of};
 
 // The f64 of these bits: 0, where they are those of none that is finite and not negative.
-pub fn real(bits: u64) -> f64 {
+#[tactic(auto, unfolding(crate::specs::Real::real_of))]
+pub fn real(bits: u64) -> f64
+    ensures { result ≡ real_of bits }
+{
     if bits < INFINITY {
         f64::from_bits(bits)
     } else {
