@@ -28,7 +28,7 @@ impl<R: Read + Drop> Iterator for Bytes<R> {
     type Item = u8;
 
     fn next(&mut self) -> Option<u8> {
-        if self.at == self.end {
+        if self.at >= self.end {
             self.at = 0;
             self.end = self.file.read(&mut self.buffer).unwrap_or(0);
         }
@@ -67,7 +67,9 @@ impl<R: Read + Drop> List<R> {
         }
     }
 
-    // The next line; none, where it is the one number that ends the list: the check of all bytes before it, after which nothing may come.
+    // The next line; none, where it is the one number that ends the list: the check of all bytes before it, after which nothing may come. Inlined,
+    // since a call hands its result over in memory, which costs as much as a short line.
+    #[inline(always)]
     pub fn next_line(&mut self) -> Result<Option<Line<'_>>, Broken> {
         let check = self.check;
         let len = self.read_line().ok_or(Broken)?;
@@ -86,20 +88,28 @@ impl<R: Read + Drop> List<R> {
     fn read_line(&mut self) -> Option<usize> {
         let mut len = 0;
         let mut value: u64 = 0;
+        // Held here while the line is read: each byte waits for what the one before made of it.
+        let mut check = self.check;
+        let mut found = None;
         for byte in self.bytes.by_ref().take(LONGEST) {
-            self.check = mix(self.check ^ u64::from(byte), 0);
+            check = mix(check ^ u64::from(byte), 0);
             match char::from(byte).to_digit(10) {
                 Some(digit) => value = value.wrapping_mul(10).wrapping_add(u64::from(digit)),
                 None => {
-                    *self.numbers.get_mut(len)? = value;
+                    let Some(number) = self.numbers.get_mut(len) else {
+                        break;
+                    };
+                    *number = value;
                     len += 1;
                     value = 0;
                     if byte == b'\n' {
-                        return Some(len);
+                        found = Some(len);
+                        break;
                     }
                 }
             }
         }
-        None
+        self.check = check;
+        found
     }
 }

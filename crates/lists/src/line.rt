@@ -1,6 +1,6 @@
 // The numbers of a line, by their places. No place is out of range: a line that says too much of itself has zeros there, or parts with nothing in them, and its
 // case does not hold.
-ghost use Rattle.std.specs.Prelude.{◌≡◌, ◌+◌, ◌<◌, ◌≤◌, [], length, take, drop};
+ghost use Rattle.std.specs.Prelude.{◌≡◌, ◌≢◌, ◌+◌, ◌<◌, ◌≤◌, ◌↔◌, ◌++◌, ℕ, List, [], length, take, drop, IsTrue, IfSome, IfNone};
 ghost use Rattle.lists.specs.Lines.{most};
 
 // No line has more numbers: `most` in specs/Lines.antt.
@@ -80,9 +80,51 @@ impl<'a> Line<'a> {
     }
 
     // Whether a store that was a copy of the line is the line still, but for these numbers, which stand from a place on.
-    pub fn is_left(self, store: &[u64], at: usize, moved: &[u64]) -> bool {
-        let front = self.lent.iter().take(at);
-        let rest = self.lent.iter().skip(at).skip(moved.len());
-        store.iter().eq(front.chain(moved).chain(rest))
+    pub fn is_left(self, store: &[u64], at: usize, moved: &[u64]) -> bool
+        ensures { let lent = lent_by self.entry in IsTrue result
+            ↔ (store.now ≡ take at lent ++ moved.now ++ drop (length moved.now) (drop at lent)) }
+    {
+        let front = until(self.lent, at);
+        let rest = from(self.past(at), moved.len());
+        let Some(left) = behind(store, front) else {
+            return false;
+        };
+        let Some(left) = behind(left, moved) else {
+            return false;
+        };
+        let Some(left) = behind(left, rest) else {
+            return false;
+        };
+        left.is_empty()
     }
+}
+
+// What a store has behind these numbers; none, where it does not begin with them. They are gone over one by one: mostly they are so few that to take several at once, as
+// `==` does, costs more.
+fn behind<'a>(store: &'a [u64], numbers: &[u64]) -> Option<&'a [u64]>
+    ensures some { IfSome result (λ left. store.now ≡ numbers.now ++ left.now) }
+    ensures none { IfNone result ((left : List ℕ) → store.now ≢ numbers.now ++ left) }
+{
+    let n = numbers.len();
+    let left = store.get(n..)?;
+    for i in 0..n {
+        if store[i] != numbers[i] {
+            return None;
+        }
+    }
+    Some(left)
+}
+
+// The numbers before a place; all, where there are fewer.
+fn until(numbers: &[u64], at: usize) -> &[u64]
+    ensures { result.now ≡ take at numbers.now }
+{
+    numbers.get(..at).unwrap_or(numbers)
+}
+
+// The numbers from a place on; none, where there are fewer.
+fn from(numbers: &[u64], at: usize) -> &[u64]
+    ensures { result.now ≡ drop at numbers.now }
+{
+    numbers.get(at..).unwrap_or(&[])
 }
