@@ -47,8 +47,10 @@ impl Content<'_> {
         requires { block_bytes * n ≤ length image.old }
         ensures { image.new ≡ fronted (all_bytes (image_words (content self.now) n)) image.old }
     {
+        // Of its own, so that its parts are not read anew after each word that is written.
+        let own = *self;
         for b in 0..n {
-            self.write_block(b, image);
+            own.write_block(b, image);
         }
     }
 
