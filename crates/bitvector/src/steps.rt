@@ -121,7 +121,7 @@ pub(crate) fn join(words: &mut [u64], other: &[u64]) -> bool
     new
 }
 
-// Whether the bits below `bit` are the same in both. Word by word, since `!=` of two parts takes up to 1.6 times as long.
+// Whether the bits below `bit` are the same in both. Word by word: `!=` of the two parts takes 1.5 to 1.7 times as long.
 pub(crate) fn same_left(words: &[u64], other: &[u64], bit: u64) -> bool
     requires { (words_for bit ≤ length words.now) × (words_for bit ≤ length other.now) }
     ensures { result ≡ same_below (has words.now) (has other.now) bit }

@@ -15,7 +15,7 @@ use lists::line::Line;
 use lists::real::real;
 use trial::measure::measure;
 
-// A kind of case, which has a list of its own.
+// A kind of case, which has a list of its own. An enum, and no function for each: whoever calls one that was passed in asks its own caller that it may be called.
 #[derive(Clone, Copy)]
 pub enum Case {
     // state, output: of the public splitmix64.c

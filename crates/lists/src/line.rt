@@ -99,8 +99,8 @@ impl<'a> Line<'a> {
     }
 }
 
-// What a store has behind these numbers; none, where it does not begin with them. They are gone over one by one: mostly they are so few that to take several at once, as
-// `==` does, costs more.
+// What a store has behind these numbers; none, where it does not begin with them. They are gone over one by one: `==` of the two parts
+// takes longer.
 fn behind<'a>(store: &'a [u64], numbers: &[u64]) -> Option<&'a [u64]>
     ensures some { IfSome result (λ left. store.now ≡ numbers.now ++ left.now) }
     ensures none { IfNone result ((left : List ℕ) → store.now ≢ numbers.now ++ left) }

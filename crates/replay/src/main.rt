@@ -31,7 +31,7 @@ fn main(rt: HostRuntime) -> io::Result<()> {
     replay(&rt, "build", Case::Build)
 }
 
-// Compares the list of this name, whose lines are cases of this kind, and writes its line. Not inlined: the list would lie in main's frame, under that of every other.
+// Compares the list of this name, whose lines are cases of this kind, and writes its line. Not inlined, or main's frame would hold a list for each call.
 #[inline(never)]
 fn replay(rt: &(impl Files + Print + Eprint + Alloc), name: &str, case: Case) -> io::Result<()> {
     match fs::open(rt, name) {

@@ -10,7 +10,7 @@ pub struct Takes {
     pub samples: u64,
 }
 
-// What a level takes for so many ids.
+// What a level takes for so many ids. Zeros where it takes nothing, and no `Option`: the call can't fail.
 #[tactic(auto, using(sizes::proofs::Sizes::size_most), unfolding(crate::specs::Takes::takes_for))]
 pub fn measure(gamma: f64, ids: u64) -> Takes
     ensures { result ≡ takes_for gamma ids }

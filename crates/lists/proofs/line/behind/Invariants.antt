@@ -1,4 +1,4 @@
--- The numbers before `i` are those of the store.
+-- The numbers before `i` are those of the store. Assumes nothing.
 use Rattle.std.proofs.Common.{◌≡◌, ◌<◌, ℕ, get_or}
 use Rattle.lists.proofs.line.behind.Given as goal
 

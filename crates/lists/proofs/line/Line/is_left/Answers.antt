@@ -1,5 +1,5 @@
 -- What is behind the front of a store is one list, so the store has what was moved there only where that list begins with it, and the rest only where that is what
--- comes then.
+-- comes then. Assumes nothing.
 use Rattle.std.proofs.Common.{rules, ◌≡◌, ◌≢◌, ◌++◌, ℕ, List, [], length, take, drop, append-nil, append_assoc}
 use Rattle.std.proofs.lemmas.List.Prefix.{front_rest}
 use Rattle.std.specs.Prelude.{IsTrue, false}
