@@ -3,7 +3,7 @@
 #![tactic(auto)]
 
 use cases::Case;
-use list_cases::{compare, report};
+use list_cases::{compare_as, report};
 use lists::file::List;
 use std::rt::Files;
 use std::{fs, io};
@@ -35,7 +35,7 @@ fn main(rt: HostRuntime) -> io::Result<()> {
 #[inline(never)]
 fn replay(rt: &(impl Files + Print + Eprint + Alloc), name: &str, case: Case) -> io::Result<()> {
     match fs::open(rt, name) {
-        Ok(file) => report(rt, name, compare(&mut List::new(file), case)),
+        Ok(file) => report(rt, name, compare_as(&mut List::new(file), case)),
         Err(error) => fail(rt, name, error),
     }
 }
