@@ -17,7 +17,8 @@ impl Read for Text<'_> {
     }
 }
 
-// Whether a line's first two numbers are the same, and the store beside it is a copy of the line. The store is overwritten, so that it holds the next line only if that is copied anew.
+// Whether a line's first two numbers are the same, and the store beside it is a copy of the line. The store is overwritten, so that it holds the next line only if
+// that is copied anew.
 fn twins(line: Line<'_>, store: &mut [u64]) -> bool {
     let copied = line.is_left(store, 0, &[]);
     store.fill(7);
